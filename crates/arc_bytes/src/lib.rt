@@ -1,0 +1,26 @@
+//! The outside, as far as bytes go: where a script comes from and where a report goes.
+//!
+//! It stands on nothing of ours, and every crate that reads or writes stands on it.
+//!
+//! The law that it keeps: a failure is the outside's own. `Failed` is answered only where the count of faults of
+//! the object that was handed in rose during the call, and code that is generic over the traits can't raise it.
+//!
+//! What the caller owes: the buffer of a read isn't empty.
+#![tactic(auto)]
+
+
+
+mod outcome;
+mod sink;
+mod source;
+
+
+
+
+pub use outcome::{Failed, Memory};
+pub use sink::Sink;
+pub use source::Source;
+
+
+#[cfg(test)]
+mod tests;
