@@ -1,0 +1,23 @@
+//! What can be said to the cluster, and what it answers: commands, operations, replies and refusals, as plain data.
+//!
+//! It stands on `arc_ids` for identifiers and on `arc_bytes` for `Memory`. Everything that knows a command stands on it.
+//!
+//! The law that it keeps: contracts see a text as its bytes and a list as its items, so that plain data is compared as
+//! a whole. A copy equals its original.
+//!
+//! What the caller owes: an operation in a command is valid, that is within its limits.
+#![tactic(auto)]
+
+mod command;
+mod list;
+mod reply;
+mod text;
+
+pub use arc_ids::{CommandId, ControlId, PanelId, RuleId};
+pub use command::{Batch, Command, Entry, MAX_MS, Op, is_valid};
+pub use list::List;
+pub use reply::{Body, ControlItem, Named, Refusal, Reply};
+pub use text::Text;
+
+#[cfg(test)]
+mod tests;

@@ -1,0 +1,59 @@
+//! Replies: what was done, or why not.
+use crate::{ControlId, PanelId, RuleId, Text};
+
+/// A control as replies show it.
+#[derive(Debug, Drop)]
+pub struct ControlItem {
+    pub panel: PanelId,
+    pub control: ControlId,
+    pub name: Text,
+    /// `true` for On.
+    pub on: bool,
+}
+
+/// Something that has an identifier.
+#[derive(Clone, Copy, Debug, PartialEq, Eq)]
+pub enum Named {
+    Panel(PanelId),
+    Control(ControlId),
+    Rule(RuleId),
+}
+
+/// Why a command changed nothing.
+#[derive(Debug, Drop)]
+pub enum Refusal {
+    /// The caller's token is above the place of the command in the list.
+    TokenAhead { token: u64, place: u64 },
+    /// What the command names isn't there.
+    NotFound { id: Named },
+    /// There is no room for one more: so many are kept.
+    Limit { count: u32 },
+    /// The name is another's.
+    NameTaken { id: Named },
+}
+
+/// What a command that was done answers.
+#[derive(Debug, Drop)]
+pub enum Body {
+    /// Nothing beside that it was done.
+    Empty,
+    /// A new control.
+    Control {
+        panel: PanelId,
+        name: Text,
+        control: ControlId,
+    },
+    /// Whether a control is On.
+    ControlState {
+        control: ControlId,
+        name: Text,
+        on: bool,
+    },
+}
+
+/// The answer to a command at its place in the list.
+#[derive(Debug, Drop)]
+pub enum Reply {
+    Done(Body),
+    Refused(Refusal),
+}
