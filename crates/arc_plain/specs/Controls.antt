@@ -1,0 +1,99 @@
+-- What the operations on controls do: a refusal, the first that applies, or an answer with the next state.
+use Rattle.std.specs.Prelude.{ℕ, ◌+◌, ◌==◌, ◌&&◌, ◌++◌, List, [], ◌∷◌, length, map, find, Bool, false, not, nat_lt, Option, Some, None, Result, Ok, Err, if◌then◌else◌}
+use Rattle.std.specs.Str.{bytes_eq}
+use Rattle.arc_ids.specs.declared.named_id.PanelId.{PanelId}
+use Rattle.arc_ids.specs.declared.named_id.ControlId.{ControlId}
+use Rattle.arc_command.specs.declared.command.Batch.{Batch}
+use Rattle.arc_command.specs.declared.command.Entry.{Entry}
+use Rattle.arc_command.specs.declared.reply.Body.{Body}
+use Rattle.arc_command.specs.declared.reply.Body.TheVariants.{Empty, Control, ControlState}
+use Rattle.arc_command.specs.declared.reply.ControlItem.{ControlItem}
+use Rattle.arc_command.specs.declared.reply.Named.{Named}
+use Rattle.arc_command.specs.declared.reply.Named.TheVariants as named
+use Rattle.arc_command.specs.declared.reply.Refusal.{Refusal}
+use Rattle.arc_command.specs.declared.reply.Refusal.TheVariants.{NotFound, Limit, NameTaken}
+use Rattle.arc_plain.specs.State.{Plain, has_panel, has_rule, control_of, has_control}
+
+-- the most controls that are kept
+abbrev pub most_controls : ℕ
+most_controls = 256
+
+-- what an operation gives: its answer and the next state, or why it is refused
+abbrev pub Effect : Type 0
+Effect = Result (Body × Plain) Refusal
+
+-- step by step: the first refusal decides
+infixl 10 ◌>>=◌
+abbrev pub ◌>>=◌ : {A B : Type 0} → Result A Refusal → (A → Result B Refusal) → Result B Refusal
+(Ok x) >>= f = f x
+(Err refusal) >>= f = Err refusal
+
+-- to go on where the test holds, and to refuse elsewhere
+abbrev pub require : Bool → Refusal → Result Bool Refusal
+require passes refusal = if passes then Ok passes else Err refusal
+
+-- the control that was looked for, or that it isn't there
+abbrev pub found : ControlId → Option ControlItem → Result ControlItem Refusal
+found id None = Err (NotFound (named.Control id))
+found id (Some control) = Ok control
+
+-- to go on where nothing of a kind is unknown, and to refuse with the first that is
+abbrev pub none_unknown : {A : Type 0} → (A → Named) → Option A → Result Bool Refusal
+none_unknown name None = Ok false
+none_unknown name (Some first) = Err (NotFound (name first))
+
+-- ---- to make a control
+
+-- the control of that panel that has this name
+abbrev pub holder_of : Plain → PanelId → List ℕ → Option ControlItem
+holder_of plain panel name = find (λ c. (c.panel.0 == panel.0) && bytes_eq c.name name) plain.controls
+
+abbrev pub name_is_free : Option ControlItem → Result Bool Refusal
+name_is_free None = Ok false
+name_is_free (Some holder) = Err (NameTaken (named.Control holder.control))
+
+-- the state with one control more, Off
+abbrev pub with_control : Plain → List ℕ → PanelId → ControlId → Plain
+with_control plain name panel id =
+    record plain {
+      controls = plain.controls ++ record { panel = panel; control = id; name = name; on = false } ∷ [];
+      controls_drawn = id.0;
+    }
+
+-- the identifier of the next control: they are drawn from 1 on
+abbrev pub next_control : Plain → ControlId
+next_control plain = record { 0 = plain.controls_drawn + 1 }
+
+-- A new control has the next identifier and is Off.
+unfoldable pub create_control : Plain → List ℕ → PanelId → Effect
+create_control plain name panel = do
+  known ← require (has_panel plain panel) (NotFound (named.Panel panel))
+  room ← require (nat_lt (length plain.controls) most_controls) (Limit (length plain.controls))
+  free ← name_is_free (holder_of plain panel name)
+  Ok (Control panel name (next_control plain), with_control plain name panel (next_control plain))
+
+-- ---- to read a control
+
+unfoldable pub get_control_state : Plain → ControlId → Effect
+get_control_state plain id = do
+  control ← found id (control_of plain id)
+  Ok (ControlState id control.name control.on, plain)
+
+-- ---- to set controls
+
+-- the state that a batch gives a control: that of its entry, or the present one
+abbrev pub set_by : Option Entry → ControlItem → ControlItem
+set_by None control = control
+set_by (Some entry) control = record control { on = entry.on }
+
+-- the state with all entries of a batch set
+abbrev pub with_entries : Plain → List Entry → Plain
+with_entries plain entries =
+    record plain { controls = map (λ c. set_by (find (λ e. e.control.0 == c.control.0) entries) c) plain.controls }
+
+-- The first unknown control refuses a batch, and then its first unknown override; else all its entries are set.
+unfoldable pub update_states : Plain → Batch → Effect
+update_states plain batch = do
+  controls ← none_unknown (λ e. named.Control e.control) (find (λ e. not (has_control plain e.control)) batch.entries)
+  rules ← none_unknown named.Rule (find (λ r. not (has_rule plain r)) batch.overrides)
+  Ok (Empty, with_entries plain batch.entries)

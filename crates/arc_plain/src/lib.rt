@@ -1,0 +1,14 @@
+//! What one plain cluster does: the meaning of every command, in definitions.
+//!
+//! A plain cluster is one list of commands that are done one after another. It knows no node, no ballot, no disk and no
+//! index. `specs/` says what it holds (`State`), what each operation does (`Controls`), and what a command answers and
+//! leaves (`Cluster`). Every crate above cites these definitions; that the five nodes behave as one plain cluster is
+//! what the product promises.
+//!
+//! It stands on `arc_command` for the words. Its only code is laws: functions without a body, whose contracts say what
+//! holds of the definitions.
+#![tactic(auto)]
+
+mod laws;
+
+pub use laws::{list_goes_on, refusals_change_nothing};
