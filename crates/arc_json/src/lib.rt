@@ -1,13 +1,15 @@
-// A library with one function.
+//! The JSON texts of what the cluster answers.
+//!
+//! It stands on `arc_command` for replies, on `arc_ids` for the texts of identifiers, and on `serde_json` for JSON.
+//! The drill stands on it, since a line of its report ends in such a text.
+//!
+//! The law that it keeps: a reply has one text, the compact JSON of its value, members in ascending byte order of their
+//! names, and one status of three digits.
 #![tactic(auto)]
 
-ghost use Rattle.std.specs.Prelude.{◌≡◌};
-ghost use Rattle.arc_json.specs.Echo.{echo_of};
+mod reply;
 
-// The `ensures` clause is the contract: what `echo` returns is `echo_of` of its argument, a definition
-// in `specs/Echo.antt`, which a caller's clause can cite too.
-pub fn echo(x: usize) -> usize
-    ensures { result ≡ echo_of x }
-{
-    x
-}
+pub use reply::reply_text;
+
+#[cfg(test)]
+mod tests;
