@@ -1,5 +1,5 @@
 -- Pieces, one after another.
-use Rattle.std.proofs.Common.{ℕ, ◌≡◌, ◌+◌, List, [], ◌++◌, take, drop, Option, None, Some, Result, Ok, sym, ap, ◌∙◌, append_assoc, subst}
+use Rattle.std.proofs.Common.{ℕ, ◌≡◌, ◌+◌, List, ◌++◌, take, drop, Option, None, Some, Ok, sym, ap, ◌∙◌, append_assoc, subst}
 use Rattle.std.proofs.Math.Seq.{take-add}
 use Rattle.arc_bytes.specs.Sink.{Appends}
 use Rattle.arc_bytes.specs.Source.{Came, Reads}

@@ -1,5 +1,5 @@
 -- What reading does to the bytes that are left.
-use Rattle.std.specs.Prelude.{ℕ, ◌≡◌, ◌<◌, ◌≤◌, ◌++◌, List, [], length, take, drop, Option, Some, None, Result, Ok, Err, ⊤}
+use Rattle.std.specs.Prelude.{ℕ, ◌≡◌, ◌++◌, List, [], take, drop, Option, Some, None, Result, Ok, Err, ⊤}
 use Rattle.arc_bytes.specs.declared.outcome.Failed.{Failed}
 
 -- One read, where the source tells what is left: the first n bytes of that stand at the front of the buffer, and the

@@ -1,5 +1,5 @@
 -- What a call makes of the count of faults of a stream.
-use Rattle.std.specs.Prelude.{ℕ, Bool, Result, Ok, Err, ◌&&◌, ◌==◌, nat_lt, List, length, if◌then◌else◌}
+use Rattle.std.specs.Prelude.{ℕ, Result, Ok, Err, ◌&&◌, ◌==◌, nat_lt, List, length, if◌then◌else◌}
 use Rattle.arc_bytes.specs.Counts.{raised}
 use Rattle.arc_bytes.specs.declared.outcome.Failed.{Failed}
 

@@ -1,5 +1,5 @@
 //! A whole input, and a whole piece of output.
-ghost use Rattle.std.specs.Prelude.{◌≡◌, ◌≤◌, List, ℕ, IsErrOf};
+ghost use Rattle.std.specs.Prelude.{◌≡◌, ◌<◌, ◌≤◌, List, ℕ, length, IfOk, IfSome, IsErrOf};
 ghost use Rattle.arc_bytes.specs.Counts.{HasCause, HasRisen};
 ghost use Rattle.arc_bytes.specs.All.{ReadsAll, WritesAll};
 
@@ -28,12 +28,16 @@ const PIECE: usize = 16 * 1024;
 /// What came before an error is lost.
 pub fn read_all<S: Source>(alloc: Global, src: &mut S, limit: usize) -> Result<Vec<u8>, ReadEnd>
     ensures reads { ReadsAll (S.left src.old) (S.left src.new) limit result }
+    // The same, where the source tells what is left: all of it, or it is longer than the limit.
+    ensures whole { IfOk result (λ bytes. IfSome (S.left src.old) (λ left. bytes.items ≡ left)) }
+    ensures long { IsErrOf result (ReadEnd.TooLong limit) →
+        IfSome (S.left src.old) (λ left. limit < length left) }
     ensures later { S.faults src.old ≤ S.faults src.new }
     ensures failed { IsErrOf result ReadEnd.Failed → HasRisen (S.faults src.old) (S.faults src.new) }
 {
     let mut bytes = Vec::new(alloc);
     let mut piece = [0; PIECE];
-    'pieces: loop {
+    loop {
         let n = match src.read(&mut piece) {
             Ok(0) => return Ok(bytes),
             Ok(n) => n,
