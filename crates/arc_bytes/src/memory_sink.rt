@@ -1,5 +1,5 @@
 //! A sink in memory, whose failures are chosen.
-ghost use Rattle.std.specs.Prelude.{◌≡◌, ◌≢◌, ◌+◌, ◌≤◌, ◌⊎◌, [], ℕ, Some, Ok, length, Contains, IfOk, IsErr, OnOk};
+ghost use Rattle.std.specs.Prelude.{◌≡◌, ◌≢◌, ◌+◌, ◌<◌, ◌≤◌, ◌⊎◌, [], ℕ, Some, Ok, length, Contains, IfOk, IsErr, OnErr, OnOk};
 ghost use Rattle.arc_bytes.specs.Counts.{HasCause, HasRisen};
 ghost use Rattle.arc_bytes.specs.InMemory.{after_write};
 ghost use Rattle.arc_bytes.specs.Sink.{Writes};
@@ -49,7 +49,9 @@ impl MemorySink {
     /// Makes room for this many bytes more, so that a write within it fails only where it was chosen.
     pub fn reserve(&mut self, more: usize) -> Result<(), Memory>
         ensures room { OnOk result (length self.old.taken + more ≤ self.new.capacity) }
+        ensures short { OnErr result (self.old.capacity < length self.old.taken + more) }
         ensures others { self.new ≡ record self.old { capacity = self.new.capacity } }
+        ensures kept { self.old.capacity ≤ self.new.capacity }
     {
         self.bytes.reserve(more)?;
         Ok(())
