@@ -1,5 +1,5 @@
 //! A whole input, and a whole piece of output.
-ghost use Rattle.std.specs.Prelude.{◌≡◌, ◌<◌, ◌≤◌, List, ℕ, length, IfOk, IfSome, IsErrOf};
+ghost use Rattle.std.specs.Prelude.{◌≡◌, ◌<◌, ◌≤◌, length, IfOk, IfSome, IsErrOf};
 ghost use Rattle.arc_bytes.specs.Counts.{HasCause, HasRisen};
 ghost use Rattle.arc_bytes.specs.All.{ReadsAll, WritesAll};
 
@@ -23,9 +23,7 @@ pub enum ReadEnd {
 /// How many bytes are asked for at once.
 const PIECE: usize = 16 * 1024;
 
-/// Reads to the end of the input, which may have at most `limit` bytes.
-///
-/// What came before an error is lost.
+/// Reads to the end of the input, which may have at most `limit` bytes. What came before an error is lost.
 pub fn read_all<S: Source>(alloc: Global, src: &mut S, limit: usize) -> Result<Vec<u8>, ReadEnd>
     ensures reads { ReadsAll (S.left src.old) (S.left src.new) limit result }
     // The same, where the source tells what is left: all of it, or it is longer than the limit.
@@ -33,7 +31,8 @@ pub fn read_all<S: Source>(alloc: Global, src: &mut S, limit: usize) -> Result<V
     ensures long { IsErrOf result (ReadEnd.TooLong limit) →
         IfSome (S.left src.old) (λ left. limit < length left) }
     ensures later { S.faults src.old ≤ S.faults src.new }
-    ensures failed { IsErrOf result ReadEnd.Failed → HasRisen (S.faults src.old) (S.faults src.new) }
+    ensures failed { IsErrOf result ReadEnd.Failed →
+        HasRisen (S.faults src.old) (S.faults src.new) }
 {
     let mut bytes = Vec::new(alloc);
     let mut piece = [0; PIECE];

@@ -1,10 +1,10 @@
 //! A sink in memory, whose failures are chosen.
-ghost use Rattle.std.specs.Prelude.{◌≡◌, ◌≢◌, ◌+◌, ◌≤◌, ◌⊎◌, [], ℕ, Some, Ok, length, Contains, IfOk, IsErr, OnOk};
+ghost use Rattle.std.specs.Prelude.{◌≡◌, ◌≢◌, ◌+◌, ◌<◌, ◌≤◌, [], Some, Ok, length, Contains, IfOk, IsErr, OnErr, OnOk};
 ghost use Rattle.arc_bytes.specs.Counts.{HasCause, HasRisen};
 ghost use Rattle.arc_bytes.specs.InMemory.{after_write};
 ghost use Rattle.arc_bytes.specs.Sink.{Writes};
 
-use crate::counts::next;
+use crate::counts::next_count;
 use crate::{Failed, Memory, Sink};
 use std::alloc::Global;
 use std::marker::Model;
@@ -36,7 +36,13 @@ impl Model for MemorySink {
 impl MemorySink {
     /// A sink that has taken nothing. The calls of `write` with these numbers, counted from 0, fail.
     pub fn new(alloc: Global, failing: Vec<u64>) -> MemorySink
-        ensures { result ≡ record { taken = []; capacity = 0; failing = failing.items; calls = 0; faults = 0 } }
+        ensures { result ≡ record {
+          taken = [];
+          capacity = 0;
+          failing = failing.items;
+          calls = 0;
+          faults = 0;
+        } }
     {
         MemorySink {
             bytes: Vec::new(alloc),
@@ -49,7 +55,9 @@ impl MemorySink {
     /// Makes room for this many bytes more, so that a write within it fails only where it was chosen.
     pub fn reserve(&mut self, more: usize) -> Result<(), Memory>
         ensures room { OnOk result (length self.old.taken + more ≤ self.new.capacity) }
+        ensures short { OnErr result (self.old.capacity < length self.old.taken + more) }
         ensures others { self.new ≡ record self.old { capacity = self.new.capacity } }
+        ensures kept { self.old.capacity ≤ self.new.capacity }
     {
         self.bytes.reserve(more)?;
         Ok(())
@@ -90,13 +98,13 @@ impl Sink for MemorySink {
         ensures kept { self.old.capacity ≤ self.new.capacity }
     {
         let call = self.calls;
-        self.calls = next(call);
+        self.calls = next_count(call);
         if self.failing.contains(&call) {
-            self.faults = next(self.faults);
+            self.faults = next_count(self.faults);
             return Err(Failed);
         }
         if self.bytes.extend_from_slice(bytes).is_err() {
-            self.faults = next(self.faults);
+            self.faults = next_count(self.faults);
             return Err(Failed);
         }
         Ok(bytes.len())

@@ -1,10 +1,10 @@
 //! A source in memory, whose failures are chosen.
-ghost use Rattle.std.specs.Prelude.{◌≡◌, ◌<◌, ◌≤◌, ◌↔◌, ◌++◌, drop, take, ℕ, Some, length, min, Contains, IfOk, IsErr};
+ghost use Rattle.std.specs.Prelude.{◌≡◌, ◌<◌, ◌≤◌, ◌↔◌, ◌++◌, drop, take, Some, length, min, Contains, IfOk, IsErr};
 ghost use Rattle.arc_bytes.specs.Counts.{HasCause};
 ghost use Rattle.arc_bytes.specs.InMemory.{after_read};
 ghost use Rattle.arc_bytes.specs.Source.{Reads};
 
-use crate::counts::next;
+use crate::counts::next_count;
 use crate::{Failed, Source};
 use std::marker::Model;
 
@@ -37,7 +37,12 @@ impl Model for MemorySource {
 impl MemorySource {
     /// A source that gives these bytes. The calls of `read` with these numbers, counted from 0, fail.
     pub fn new(bytes: Vec<u8>, failing: Vec<u64>) -> MemorySource
-        ensures { result ≡ record { left = bytes.items; failing = failing.items; calls = 0; faults = 0 } }
+        ensures { result ≡ record {
+          left = bytes.items;
+          failing = failing.items;
+          calls = 0;
+          faults = 0;
+        } }
     {
         MemorySource {
             bytes,
@@ -72,9 +77,9 @@ impl Source for MemorySource {
         ensures after { self.new ≡ after_read self.old result }
     {
         let call = self.calls;
-        self.calls = next(call);
+        self.calls = next_count(call);
         if self.failing.contains(&call) {
-            self.faults = next(self.faults);
+            self.faults = next_count(self.faults);
             return Err(Failed);
         }
         let n = copy_front(&self.bytes[self.at..], buf);

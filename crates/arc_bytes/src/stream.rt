@@ -3,7 +3,7 @@ ghost use Rattle.std.specs.Prelude.{◌≡◌, ◌≢◌, ◌<◌, ◌≤◌, []
 ghost use Rattle.arc_bytes.specs.Counts.{HasCause, HasRisen};
 ghost use Rattle.arc_bytes.specs.Stream.{faults_after_read, faults_after_write};
 
-use crate::counts::next;
+use crate::counts::next_count;
 use crate::{Failed, Sink, Source};
 use std::io::{Read, Write};
 use std::marker::Model;
@@ -51,7 +51,7 @@ impl<R: Read> Source for StreamSource<R> {
         match self.reader.read(buf) {
             Ok(n) => Ok(n),
             Err(_) => {
-                self.faults = next(self.faults);
+                self.faults = next_count(self.faults);
                 Err(Failed)
             }
         }
@@ -102,12 +102,12 @@ impl<W: Write> Sink for StreamSink<W> {
         match write_through(&mut self.writer, bytes) {
             Ok(n) => {
                 if n == 0 && !bytes.is_empty() {
-                    self.faults = next(self.faults);
+                    self.faults = next_count(self.faults);
                 }
                 Ok(n)
             }
             Err(Failed) => {
-                self.faults = next(self.faults);
+                self.faults = next_count(self.faults);
                 Err(Failed)
             }
         }
