@@ -27,38 +27,38 @@ abbrev pub body_value : Body → Data
 body_value Empty = object no_members
 body_value (Control panel name control) =
     object (member (codes "RoutingControl") (object (
-        member (codes "ControlPanelArn") (string (panel_text panel)) (
-        member (codes "Name") (string name) (
-        member (codes "RoutingControlArn") (string (control_text control)) no_members)))) no_members)
+    member (codes "ControlPanelArn") (string (panel_text panel)) (
+    member (codes "Name") (string name) (
+    member (codes "RoutingControlArn") (string (control_text control)) no_members)))) no_members)
 body_value (ControlState control name on) =
     object (
-      member (codes "RoutingControlArn") (string (control_text control)) (
-      member (codes "RoutingControlName") (string name) (
-      member (codes "RoutingControlState") (string (switch_text on)) no_members)))
+    member (codes "RoutingControlArn") (string (control_text control)) (
+    member (codes "RoutingControlName") (string name) (
+    member (codes "RoutingControlState") (string (switch_text on)) no_members)))
 
 -- why it was refused
 abbrev pub refusal_value : Refusal → Data
 refusal_value (TokenAhead token place) =
     object (
-      member (codes "Place") (number (unsigned place)) (
-      member (codes "Reason") (string (codes "TokenAhead")) (
-      member (codes "Token") (number (unsigned token)) (
-      member (codes "__type") (string (codes "ConflictException")) no_members))))
+    member (codes "Place") (number (unsigned place)) (
+    member (codes "Reason") (string (codes "TokenAhead")) (
+    member (codes "Token") (number (unsigned token)) (
+    member (codes "__type") (string (codes "ConflictException")) no_members))))
 refusal_value (NotFound id) =
     object (
-      member (codes "Reason") (string (codes "NotFound")) (
-      member (codes "Resource") (string (named_text id)) (
-      member (codes "__type") (string (codes "ResourceNotFoundException")) no_members)))
+    member (codes "Reason") (string (codes "NotFound")) (
+    member (codes "Resource") (string (named_text id)) (
+    member (codes "__type") (string (codes "ResourceNotFoundException")) no_members)))
 refusal_value (Limit count) =
     object (
-      member (codes "Count") (number (unsigned count)) (
-      member (codes "Reason") (string (codes "Limit")) (
-      member (codes "__type") (string (codes "ServiceLimitExceededException")) no_members)))
+    member (codes "Count") (number (unsigned count)) (
+    member (codes "Reason") (string (codes "Limit")) (
+    member (codes "__type") (string (codes "ServiceLimitExceededException")) no_members)))
 refusal_value (NameTaken id) =
     object (
-      member (codes "Reason") (string (codes "NameTaken")) (
-      member (codes "Resource") (string (named_text id)) (
-      member (codes "__type") (string (codes "ConflictException")) no_members)))
+    member (codes "Reason") (string (codes "NameTaken")) (
+    member (codes "Resource") (string (named_text id)) (
+    member (codes "__type") (string (codes "ConflictException")) no_members)))
 
 -- the status of a refusal, in the numbers of HTTP
 abbrev pub refusal_status : Refusal → ℕ

@@ -7,6 +7,8 @@
 //! names, and one status of three digits.
 #![tactic(auto)]
 
+mod body;
+mod refusal;
 mod reply;
 
 pub use reply::reply_text;
