@@ -1,5 +1,5 @@
 -- The numbers of the statuses.
-use Rattle.std.specs.Prelude.{ℕ}
+use Rattle.std.specs.Prelude.{ℕ, ◌≡◌}
 use Rattle.arc_drill.specs.declared.status.Status.{Status}
 use Rattle.arc_drill.specs.declared.status.Status.TheVariants.{Done, SourceFailed, SinkFailed, Memory, BadScript}
 
@@ -9,3 +9,7 @@ number_of SourceFailed = 3
 number_of SinkFailed = 4
 number_of Memory = 5
 number_of BadScript = 6
+
+-- one of those numbers
+abbrev pub IsStatus : ℕ → Type 0
+IsStatus number = (ended : Status) × (number ≡ number_of ended)

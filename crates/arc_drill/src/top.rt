@@ -9,6 +9,7 @@ use std::alloc::Global;
 ghost use Rattle.std.specs.Prelude.{◌≡◌, ◌≢◌, IfSome, Err};
 ghost use Rattle.arc_bytes.specs.Counts.{HasRisen};
 ghost use Rattle.arc_drill.specs.Drilled.{Drilled, Wrote};
+ghost use Rattle.arc_drill.specs.Status.{IsStatus};
 ghost use Rattle.arc_script.specs.Grammar.{steps_of};
 
 /// Reads a script from `src`, does its steps in order, writes the line of each to `out` when it is done, and answers
@@ -18,6 +19,7 @@ pub fn drill<S: Source, K: Sink>(alloc: Global, src: &mut S, out: &mut K) -> u8
     // What went out is what the script's report tells, by the status.
     ensures drilled { IfSome (S.left src.old) (λ text.
         Drilled (K.taken out.old) (K.taken out.new) result (steps_of text)) }
+    ensures status { IsStatus result }
     ensures source_failed { result ≡ 3 → HasRisen (S.faults src.old) (S.faults src.new) }
     ensures untouched { result ≡ 3 → out.new ≡ out.old }
     ensures sink_failed { result ≡ 4 → HasRisen (K.faults out.old) (K.faults out.new) }
