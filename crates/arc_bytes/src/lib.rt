@@ -8,19 +8,22 @@
 //! What the caller owes: the buffer of a read isn't empty.
 #![tactic(auto)]
 
-
-
+mod all;
+mod counts;
+mod memory_sink;
+mod memory_source;
 mod outcome;
 mod sink;
 mod source;
+mod stream;
 
-
-
-
+pub use all::{ReadEnd, read_all, write_all};
+pub use memory_sink::MemorySink;
+pub use memory_source::MemorySource;
 pub use outcome::{Failed, Memory};
 pub use sink::Sink;
 pub use source::Source;
-
+pub use stream::{StreamSink, StreamSource};
 
 #[cfg(test)]
 mod tests;

@@ -1,3 +1,4 @@
 pub mod State
 pub mod Controls
 pub mod Cluster
+pub mod Laws

@@ -11,4 +11,4 @@
 
 mod laws;
 
-pub use laws::{list_goes_on, refusals_change_nothing};
+pub use laws::{list_goes_on, places_count, refusals_change_nothing};

@@ -8,6 +8,8 @@
 //! What the caller owes: valid operations, and fewer than 2^64 - 1 commands in all.
 #![tactic(auto)]
 
+mod controls;
+mod lookup;
 mod state;
 
 pub use state::State;

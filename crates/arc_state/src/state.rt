@@ -4,8 +4,9 @@ ghost use Rattle.arc_command.specs.Valid.{IsValid};
 ghost use Rattle.arc_plain.specs.State.{fresh as fresh_state};
 ghost use Rattle.arc_state.specs.State.{Applies, StandsFor, count_of};
 
+use crate::controls::perform;
 use arc_bytes::Memory;
-use arc_command::{Command, ControlItem, Reply};
+use arc_command::{Command, ControlItem, Refusal, Reply};
 use std::alloc::Global;
 use std::marker::Model;
 
@@ -21,13 +22,13 @@ pub struct State {
 impl Model for State {
     ghost use Rattle.std.specs.Prelude.{◌≤◌};
     ghost use Rattle.arc_plain.specs.State.{Plain};
+    ghost use Rattle.arc_state.specs.Controls.{AreKept, plain_of};
 
     ghost Value = { Plain };
 
-    ghost view = { λ s. record {
-        time = s.time; count = s.count; controls = s.controls.items; controls_drawn = s.controls_drawn } };
+    ghost view = { λ s. plain_of s.time s.count s.controls.items s.controls_drawn };
 
-    ghost invariant = { λ s. s.controls_drawn ≤ s.count };
+    ghost invariant = { λ s. (s.controls_drawn ≤ s.count) × AreKept s.controls.items s.controls_drawn };
 }
 
 impl State {
@@ -41,6 +42,27 @@ impl State {
             controls: Vec::new(alloc),
             controls_drawn: 0,
         })
+    }
+
+    /// Does a command: answers it and moves to the next state. After want of memory nothing has changed.
+    pub fn apply(&mut self, alloc: Global, c: &Command) -> Result<Reply, Memory>
+        requires valid { IsValid c.now.op }
+        requires room { count_of self.old < 2 ^ 64 - 1 }
+        ensures applies { IfOk result (λ reply. Applies self.old c.now reply self.new) }
+        ensures unchanged { OnErr result (self.new ≡ self.old) }
+    {
+        let place = self.count;
+        let reply = if c.token > place {
+            Reply::Refused(Refusal::TokenAhead {
+                token: c.token,
+                place,
+            })
+        } else {
+            perform(alloc, &mut self.controls, &mut self.controls_drawn, &c.op)?
+        };
+        self.time = self.time.max(c.at_ms);
+        self.count += 1;
+        Ok(reply)
     }
 
     /// How many commands were given, refused ones included.

@@ -1,0 +1,5 @@
+pub mod Status
+pub mod Lines
+pub mod Report
+pub mod Drilled
+pub mod Steps

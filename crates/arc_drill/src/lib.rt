@@ -1,0 +1,21 @@
+//! The drill: a script of calls in, a line of report a step out.
+//!
+//! It stands on `arc_script` for the steps, on `arc_state` for what they do, on `arc_json` for what the replies are in
+//! text, and on `arc_bytes` for where the bytes come from and go to. The program stands on it.
+//!
+//! The promise that it carries is the drill's theorem: the contract of `drill`, whose words stand in `specs/`. `Report`
+//! says what a report tells of a script, by place; `Drilled` says what went out, by the status.
+//!
+//! What the caller owes: nothing.
+#![tactic(auto)]
+
+mod lines;
+mod report;
+mod status;
+mod top;
+
+pub use status::Status;
+pub use top::drill;
+
+#[cfg(test)]
+mod tests;

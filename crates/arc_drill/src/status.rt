@@ -1,0 +1,33 @@
+//! How a drill ends.
+ghost use Rattle.std.specs.Prelude.{◌≡◌};
+ghost use Rattle.arc_drill.specs.Status.{number_of};
+
+/// How a drill ended. Its number is the exit status of the program.
+#[derive(Clone, Copy, Debug, PartialEq, Eq)]
+pub enum Status {
+    /// The script was read to its end, and every step was done and reported: 0.
+    Done,
+    /// The source failed; nothing was written: 3.
+    SourceFailed,
+    /// The sink failed; a front of the report went out: 4.
+    SinkFailed,
+    /// There was no memory left; whole lines of the report went out: 5.
+    Memory,
+    /// The text is no script; one line says where: 6.
+    BadScript,
+}
+
+impl Status {
+    /// The exit status.
+    pub fn number(self) -> u8
+        ensures { result ≡ number_of self }
+    {
+        match self {
+            Status::Done => 0,
+            Status::SourceFailed => 3,
+            Status::SinkFailed => 4,
+            Status::Memory => 5,
+            Status::BadScript => 6,
+        }
+    }
+}

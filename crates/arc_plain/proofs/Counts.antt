@@ -1,0 +1,20 @@
+-- How many commands there were, and when.
+use Rattle.std.proofs.Common.{◌≡◌, ◌+◌, List, [], ◌∷◌, length, fold, refl, arith}
+use Rattle.arc_command.specs.declared.command.Command.{Command}
+use Rattle.arc_plain.specs.State.{Plain, fresh}
+use Rattle.arc_plain.specs.Cluster.{fold_of, next}
+use Rattle.arc_plain.proofs.Steps.{next_cases}
+
+-- each command counts once
+count-next : (plain : Plain) (c : Command) → (next plain c).count ≡ plain.count + 1
+count-next plain c =
+    next_cases (λ p. p.count ≡ plain.count + 1) plain c refl (λ name panel room free. refl) (λ entries. refl)
+
+-- from any state on
+count-fold : (plain : Plain) (commands : List Command) → (fold next plain commands).count ≡ plain.count + length commands
+count-fold plain [] = omega arith
+count-fold plain (c ∷ commands) = omega (arith, count-fold (next plain c) commands, count-next plain c)
+
+-- the number of commands is the length of the list
+pub places_count : (commands : List Command) → (fold_of commands).count ≡ length commands
+places_count commands = omega (arith, count-fold fresh commands)

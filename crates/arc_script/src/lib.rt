@@ -1,0 +1,20 @@
+//! Scripts: the text of a drill, read into steps.
+//!
+//! It stands on `arc_command` for what a call asks for. The drill stands on it.
+//!
+//! The law that it keeps: a text is read exactly by its grammar, which `specs/` states apart from this code. What is in
+//! the grammar is read as the steps that it spells, and what isn't is refused with its first bad line and the code of
+//! the first test that this line fails.
+//!
+//! A script is a list of lines that end in LF; the last may lack it. A CR just before that end is dropped. A line that is
+//! empty or begins with `#` is no step. Words are separated by one space.
+#![tactic(auto)]
+
+mod script;
+mod step;
+
+pub use script::read_script;
+pub use step::{MAX_SCRIPT, ScriptCode, ScriptEnd, Step};
+
+#[cfg(test)]
+mod tests;

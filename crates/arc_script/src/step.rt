@@ -1,0 +1,49 @@
+//! The steps of a script, and why a text is none.
+use arc_command::Op;
+
+/// The longest script, in bytes.
+pub const MAX_SCRIPT: usize = 16_777_216;
+
+/// One step of a drill.
+#[derive(Debug, Drop)]
+pub enum Step {
+    /// A call on an endpoint.
+    Call {
+        /// The node that is called.
+        node: u8,
+        /// When, in milliseconds since 1970-01-01.
+        at_ms: u64,
+        /// The number of commands that the caller knows to be in the list.
+        token: u64,
+        /// What it asks for.
+        op: Op,
+    },
+}
+
+/// The first test that a bad line fails.
+#[derive(Clone, Copy, Debug, PartialEq, Eq)]
+pub enum ScriptCode {
+    /// The line isn't UTF-8.
+    NotUtf8,
+    /// The first word is none that is known, or an endpoint isn't built.
+    Word,
+    /// There are too many or too few words, or one is empty.
+    Shape,
+    /// A word that has to be a number isn't, or is outside its range.
+    Number,
+    /// A name hasn't 1 to 64 bytes.
+    Name,
+    /// A state is neither `On` nor `Off`.
+    State,
+    /// The script is longer than `MAX_SCRIPT`; its line is 0.
+    TooLong,
+}
+
+/// Why a script wasn't read.
+#[derive(Clone, Copy, Debug, PartialEq, Eq)]
+pub enum ScriptEnd {
+    /// The first bad line, counted from 1 over all lines, and its code.
+    BadScript { line: u32, code: ScriptCode },
+    /// There was no memory left.
+    Memory,
+}

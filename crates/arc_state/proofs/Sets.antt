@@ -1,0 +1,170 @@
+-- Setting one control after another.
+use Rattle.std.proofs.Common.{◌≡◌, ◌≢◌, ℕ, ◌+◌, ◌-◌, ◌<◌, ◌≤◌, ◌==◌, Bool, true, false, cond, List, [], ◌∷◌, length, get_or, set, drop, find, position, Option, Some, None, refl, sym, ap, ◌∙◌, arith, eqb, inl, inr}
+use Rattle.std.proofs.lemmas.List.{same_lists, get_or-map, get_or_default, drop_all, drop_more, length-map, get_or-set_other, length-set}
+use Rattle.std.proofs.lemmas.Grind.{get_or-set_at}
+use Rattle.std.proofs.lemmas.List.Quantifiers.{position-Some}
+use Rattle.std.proofs.lemmas.Bool.{cases_eq, cases_lt, eq-eqb, eqb-true}
+use Rattle.arc_command.specs.declared.command.Entry.{Entry}
+use Rattle.arc_command.specs.declared.reply.ControlItem.{ControlItem}
+use Rattle.arc_plain.specs.Controls.{set_by}
+use Rattle.arc_plain.specs.Laws.{AreAscending}
+use Rattle.arc_state.specs.Controls.{AreKept, with_set}
+use Rattle.arc_state.proofs.Found.{find_nowhere}
+
+-- the last of two changes decides
+set_by_twice : (b : Bool) (e : Entry) (o : Option Entry) (c : ControlItem) →
+    set_by (cond b (Some e) o) c ≡ set_by (cond b (Some e) None) (set_by o c)
+set_by_twice true e None c = refl
+set_by_twice true e (Some x) c = refl
+set_by_twice false e o c = refl
+
+-- the same where the test looks at the changed control
+set_by_onto : (e : Entry) (o : Option Entry) (c : ControlItem) →
+    set_by (cond (e.control.0 == c.control.0) (Some e) o) c
+    ≡ set_by (cond (e.control.0 == (set_by o c).control.0) (Some e) None) (set_by o c)
+set_by_onto e None c = set_by_twice (e.control.0 == c.control.0) e None c
+set_by_onto e (Some x) c = set_by_twice (e.control.0 == c.control.0) e (Some x) c
+
+-- one more entry before the others is one more change after theirs
+pub with_set-cons : (e : Entry) (rest : List Entry) (xs : List ControlItem) →
+    with_set (e ∷ rest) xs ≡ with_set (e ∷ []) (with_set rest xs)
+with_set-cons e rest [] = refl
+with_set-cons e rest (c ∷ xs) =
+    let first = set_by_onto e (find (λ x. x.control.0 == c.control.0) rest) c in
+    let others = with_set-cons e rest xs in
+    cc
+
+-- no entry changes nothing
+pub with_set-nil : (xs : List ControlItem) → with_set [] xs ≡ xs
+with_set-nil [] = refl
+with_set-nil (c ∷ xs) = ap (λ l. c ∷ l) (with_set-nil xs)
+
+-- before the first of the last entries no entry is set
+pub sets_none : (entries : List Entry) (xs : List ControlItem) → xs ≡ with_set (drop (length entries) entries) xs
+sets_none entries xs =
+    sym (ap (λ rest. with_set rest xs) (drop_all (length entries) entries (omega arith)) ∙ with_set-nil xs)
+
+-- the entry before the last entries is the next
+pub sets_more : (entries : List Entry) (xs ys zs : List ControlItem) (i : ℕ) (d : Entry) → 0 < i → i ≤ length entries →
+    ys ≡ with_set (drop i entries) xs → zs ≡ with_set (get_or entries (i - 1) d ∷ []) ys →
+    zs ≡ with_set (drop (i - 1) entries) xs
+sets_more entries xs ys zs i d some within before now =
+    let entry = get_or entries (i - 1) d in
+    let next : i - 1 + 1 ≡ i = omega arith in
+    let rest = rw next at (drop_more entries (i - 1) d (omega arith)) in
+    now
+    ∙ ap (λ l. with_set (entry ∷ []) l) before
+    ∙ sym (ap (λ l. with_set l xs) rest ∙ with_set-cons entry (drop i entries) xs)
+
+-- an entry sets its own control
+set_by_own : (e : Entry) (c : ControlItem) → c.control.0 ≡ e.control.0 →
+    set_by (find (λ x. x.control.0 == c.control.0) (e ∷ [])) c ≡ record c { on = e.on }
+set_by_own e c own = let same : eqb e.control.0 c.control.0 ≡ true = grind arith in simp same
+
+-- and no other
+set_by_other : (e : Entry) (c : ControlItem) → c.control.0 ≢ e.control.0 →
+    set_by (find (λ x. x.control.0 == c.control.0) (e ∷ [])) c ≡ c
+set_by_other e c other = let apart : eqb e.control.0 c.control.0 ≡ false = grind arith in simp apart
+
+-- an entry of a control that isn't found changes nothing
+with_set_unfound : (e : Entry) (xs : List ControlItem) →
+    find (λ c. c.control.0 == e.control.0) xs ≡ None → with_set (e ∷ []) xs ≡ xs
+with_set_unfound e [] unfound = refl
+with_set_unfound e (c ∷ xs) unfound =
+    elim (cases_eq c.control.0 e.control.0) [
+      | inl own ↦
+          let same = eq-eqb c.control.0 e.control.0 own in
+          let found = rw same at unfound in
+          cc
+      | inr other ↦
+          let apart : eqb c.control.0 e.control.0 ≡ false = grind arith in
+          let unchanged = set_by_other e c other in
+          let others = with_set_unfound e xs (rw apart at unfound) in
+          cc
+    ]
+
+pub set_nowhere : (e : Entry) (xs : List ControlItem) →
+    position (λ c. c.control.0 == e.control.0) xs ≡ None → with_set (e ∷ []) xs ≡ xs
+set_nowhere e xs nowhere = with_set_unfound e xs (find_nowhere (λ c. c.control.0 == e.control.0) xs nowhere)
+
+-- no other place has the identifier
+other_id : (e : Entry) (xs : List ControlItem) (i k : ℕ) (d : ControlItem) →
+    AreAscending xs → i < length xs → k < length xs → k ≢ i →
+    (get_or xs i d).control.0 ≡ e.control.0 → (get_or xs k d).control.0 ≢ e.control.0
+other_id e xs i k d ascending within below apart own own' =
+    elim (cases_lt k i) [
+      | inl before ↦ omega (arith, ascending k i d before within)
+      | inr after ↦ omega (arith, ascending i k d (omega arith) below)
+    ]
+
+-- what an entry leaves at a place
+with_set_at : (e : Entry) (xs : List ControlItem) (i k : ℕ) (d x : ControlItem) →
+    AreAscending xs → position (λ c. c.control.0 == e.control.0) xs ≡ Some i → k < length xs →
+    get_or (with_set (e ∷ []) xs) k x ≡ get_or (set xs i (record (get_or xs i d) { on = e.on })) k x
+with_set_at e xs i k d x ascending there within =
+    let at = get_or-map (λ c. set_by (find (λ y. y.control.0 == c.control.0) (e ∷ [])) c) xs k x x within in
+    let first = position-Some (λ c. c.control.0 == e.control.0) xs i d there in
+    let own = eqb-true (get_or xs i d).control.0 e.control.0 first.1 in
+    let changed = record (get_or xs i d) { on = e.on } in
+    elim (cases_eq k i) [
+      | inl here ↦
+          let item = ap (λ n. get_or xs n x) here ∙ get_or_default xs i x d first.0 in
+          at
+          ∙ set_by_own e (get_or xs k x) (ap (λ c. c.control.0) item ∙ own)
+          ∙ ap (λ (c : ControlItem). record c { on = e.on }) item
+          ∙ sym (get_or-set_at xs i k changed x here first.0)
+      | inr elsewhere ↦
+          at
+          ∙ set_by_other e (get_or xs k x) (other_id e xs i k x ascending first.0 within elsewhere
+          (ap (λ c. c.control.0) (get_or_default xs i x d first.0) ∙ own))
+          ∙ sym (get_or-set_other xs i k changed x elsewhere)
+    ]
+
+-- an entry changes one place
+pub set_there : (e : Entry) (xs : List ControlItem) (i : ℕ) (d : ControlItem) →
+    AreAscending xs → position (λ c. c.control.0 == e.control.0) xs ≡ Some i →
+    with_set (e ∷ []) xs ≡ set xs i (record (get_or xs i d) { on = e.on })
+set_there e xs i d ascending there =
+    let changed = record (get_or xs i d) { on = e.on } in
+    let f = λ (c : ControlItem). set_by (find (λ x. x.control.0 == c.control.0) (e ∷ [])) c in
+    same_lists (with_set (e ∷ []) xs) (set xs i changed)
+    (length-map xs f ∙ sym (length-set xs i changed))
+    (λ k x below. with_set_at e xs i k d x ascending there (rw (length-map xs f) at below))
+
+-- a change leaves the identifier
+control-set_by : (o : Option Entry) (c : ControlItem) → (set_by o c).control.0 ≡ c.control.0
+control-set_by None c = refl
+control-set_by (Some e) c = refl
+
+-- a change leaves the identifier at each place
+control-with_set : (entries : List Entry) (xs : List ControlItem) (k : ℕ) (d : ControlItem) → k < length xs →
+    (get_or (with_set entries xs) k d).control.0 ≡ (get_or xs k d).control.0
+control-with_set entries xs k d within =
+    let find_for = λ (c : ControlItem). find (λ e. e.control.0 == c.control.0) entries in
+    let item = get_or xs k d in
+    ap (λ c. c.control.0) (get_or-map (λ c. set_by (find_for c) c) xs k d d within) ∙ control-set_by (find_for item) item
+
+-- and how many there are
+length-with_set : (entries : List Entry) (xs : List ControlItem) → length (with_set entries xs) ≡ length xs
+length-with_set entries xs = length-map xs (λ c. set_by (find (λ e. e.control.0 == c.control.0) entries) c)
+
+-- changes leave the identifiers in order
+pub ascending_after_sets : (entries : List Entry) (xs : List ControlItem) →
+    AreAscending xs → AreAscending (with_set entries xs)
+ascending_after_sets entries xs ascending i j d before within =
+    let within' : j < length xs = omega (arith, length-with_set entries xs) in
+    let id_at = λ (k : ℕ). control-with_set entries xs k d in
+    omega (arith, id_at i (omega arith), id_at j within', ascending i j d before within')
+
+-- controls that were set are kept as the others are
+pub kept_after_sets : (entries : List Entry) (xs : List ControlItem) (drawn : ℕ) →
+    AreKept xs drawn → AreKept (with_set entries xs) drawn
+kept_after_sets entries xs drawn kept = record {
+  are_drawn = record {
+    ascending = ascending_after_sets entries xs kept.are_drawn.ascending;
+    drawn_before = λ k d within.
+        let within' : k < length xs = omega (arith, length-with_set entries xs) in
+        rw (control-with_set entries xs k d within') (kept.are_drawn.drawn_before k d within');
+  };
+  within_limit = omega (arith, length-with_set entries xs, kept.within_limit);
+}
