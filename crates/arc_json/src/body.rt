@@ -1,12 +1,12 @@
 //! What was done, as JSON.
-ghost use Rattle.std.specs.Prelude.{◌≡◌, codes, IfOk};
+ghost use Rattle.std.specs.Prelude.{◌≡◌, IfOk};
 ghost use Rattle.serde_json.specs.View.{view};
 ghost use Rattle.arc_json.specs.Reply.{switch_text, body_value};
 
 use arc_bytes::Memory;
 use arc_command::{Body, ControlId, PanelId, Text};
 use serde_json::{Value, json};
-use std::alloc::{AllocError, Global};
+use std::alloc::Global;
 
 /// The JSON value of what was done.
 pub fn body_json(alloc: Global, body: &Body) -> Result<Value, Memory>

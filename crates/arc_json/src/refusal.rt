@@ -6,7 +6,7 @@ ghost use Rattle.arc_json.specs.Reply.{named_text, refusal_status, refusal_value
 use arc_bytes::Memory;
 use arc_command::{Named, Refusal};
 use serde_json::{Value, json};
-use std::alloc::{AllocError, Global};
+use std::alloc::Global;
 
 /// The status of a refusal, in the numbers of HTTP.
 pub fn http_status(refusal: &Refusal) -> u16

@@ -8,7 +8,7 @@ use crate::refusal::{http_status, refusal_json};
 use arc_bytes::Memory;
 use arc_command::Reply;
 use serde_json::Value;
-use std::alloc::{AllocError, Global};
+use std::alloc::Global;
 
 /// The status of a reply and its text, compact JSON.
 #[tactic(auto, unfolding(crate::specs::Reply::text_of))]
