@@ -10,9 +10,13 @@
 //! empty or begins with `#` is no step. Words are separated by one space.
 #![tactic(auto)]
 
+mod end;
+mod lines;
 mod script;
 mod step;
+mod words;
 
+use end::LineEnd;
 pub use script::read_script;
 pub use step::{MAX_SCRIPT, ScriptCode, ScriptEnd, Step};
 
