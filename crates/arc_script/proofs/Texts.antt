@@ -4,11 +4,12 @@ use Rattle.std.specs.Char.{is_ascii_digit}
 use Rattle.std.specs.List.{list_all, list_any}
 use Rattle.std.specs.Str.{all_ascii_digits, is_utf8, IsUtf8}
 use Rattle.std.specs.Str.Parse.{ParsesUnsigned, digits_value}
-use Rattle.std.proofs.lemmas.Bool.{and_from, and_parts, cases_lt, false_from_ne_true, lt-leb}
+use Rattle.std.proofs.lemmas.Bool.{cases_lt, false_from_ne_true, lt-leb}
 use Rattle.std.proofs.lemmas.Str.{IsUtf8-from_is_utf8, is_utf8-from_IsUtf8}
-use Rattle.std.proofs.lemmas.Str.Parse.{IsNumeralModel, numerals_by_value, tells_all_ascii_digits, parse_digits}
+use Rattle.std.proofs.lemmas.Str.Parse.{parse_digits}
 use Rattle.arc_script.specs.declared.step.ScriptCode.TheVariants.{Number}
 use Rattle.arc_script.specs.Words.{is_number, number_of, at_most}
+use Rattle.arc_script.proofs.Numbers.{numerals, number_digits}
 
 -- the test of digits, as `all` computes it
 pub digits_by_all : (word : List ℕ) → all_ascii_digits word ≡ list_all is_ascii_digit word
@@ -27,15 +28,6 @@ utf8_passes bytes is = is_utf8-from_IsUtf8 bytes is
 -- a text that isn't UTF-8 fails it
 pub utf8_fails : (bytes : List ℕ) → (IsUtf8 bytes → ⊥) → is_utf8 bytes ≡ false
 utf8_fails bytes not_utf8 = false_from_ne_true _ (λ is. not_utf8 (IsUtf8-from_is_utf8 bytes is))
-
--- the digits of a number
-number_digits : (word : List ℕ) → is_number word ≡ true → (all_ascii_digits word ≡ true) × (0 < length word)
-number_digits [] is = absurd cc
-number_digits (digit ∷ []) is = (and_from _ _ is refl, omega arith)
-number_digits (first ∷ second ∷ others) is = ((and_parts _ _ is).1, omega arith)
-
-numerals : IsNumeralModel (λ word. all_ascii_digits word ≡ true) (digits_value 10)
-numerals = numerals_by_value _ tells_all_ascii_digits
 
 -- a number that `parse` refuses has more than 64 bits, so it is above each limit of 64 bits
 pub above_64_bits : {E : Type 0} (most : ℕ) (word : List ℕ) (error : E) → most < 2 ^ 64 → is_number word ≡ true → ParsesUnsigned 64 10 word (Err error) → at_most most (number_of word) ≡ Err Number
