@@ -2,9 +2,11 @@
 use Rattle.std.specs.Prelude.{ℕ, ◌≡◌, ◌+◌, ◌==◌, Bool, false, not, nat_lt, List, [], ◌∷◌, length, map, codes, Result, Ok, Err, if◌then◌else◌, ⊤}
 use Rattle.std.specs.List.{slice_split, list_any}
 use Rattle.std.specs.Str.{bytes_eq, is_utf8}
+use Rattle.std.specs.Str.Lines.{strip_carriage_return}
 use Rattle.arc_command.specs.declared.command.Op.{Op}
 use Rattle.arc_command.specs.declared.command.Op.TheVariants.{CreateRoutingControl, GetRoutingControlState, UpdateRoutingControlState}
 use Rattle.arc_command.specs.declared.command.TheConstants.{MAX_MS}
+use Rattle.arc_script.specs.declared.lines.Head.{Head}
 use Rattle.arc_script.specs.declared.step.ScriptCode.{ScriptCode}
 use Rattle.arc_script.specs.declared.step.ScriptCode.TheVariants.{NotUtf8, Word, Shape, TooLong}
 use Rattle.arc_script.specs.declared.step.ScriptEnd.{ScriptEnd}
@@ -39,51 +41,57 @@ set_control control on =
 
 -- ---- lines
 
--- a call: endpoint, time and token come before what the operation needs
-abbrev pub call_of : List ℕ → List ℕ → List ℕ → Result Op ScriptCode → Result Step ScriptCode
-call_of endpoint time token operation = do
+-- what every call begins with: endpoint, time and token
+unfoldable pub head_of : List ℕ → List ℕ → List ℕ → Result Head ScriptCode
+head_of endpoint time token = do
   node ← endpoint_of endpoint
   at_ms ← number_up_to MAX_MS time
   known ← long_number token
-  op ← operation
-  Ok (Call node at_ms known op)
+  Ok (record { node = node; at_ms = at_ms; token = known })
+
+-- the call that asks for this
+abbrev pub call : Head → Op → Step
+call head op = Call head.node head.at_ms head.token op
 
 -- `new E T K name`
 unfoldable pub new_line : List (List ℕ) → Result Step ScriptCode
-new_line (e ∷ t ∷ k ∷ name ∷ []) = call_of e t k (do
+new_line (e ∷ t ∷ k ∷ name ∷ []) = do
+  head ← head_of e t k
   text ← name_of name
-  Ok (new_control text))
+  Ok (call head (new_control text))
 new_line fields = Err Shape
 
 -- `get E T K c`
 unfoldable pub get_line : List (List ℕ) → Result Step ScriptCode
-get_line (e ∷ t ∷ k ∷ c ∷ []) = call_of e t k (do
+get_line (e ∷ t ∷ k ∷ c ∷ []) = do
+  head ← head_of e t k
   control ← long_number c
-  Ok (get_control control))
+  Ok (call head (get_control control))
 get_line fields = Err Shape
 
 -- `set E T K c On` or `Off`
 unfoldable pub set_line : List (List ℕ) → Result Step ScriptCode
-set_line (e ∷ t ∷ k ∷ c ∷ state ∷ []) = call_of e t k (do
+set_line (e ∷ t ∷ k ∷ c ∷ state ∷ []) = do
+  head ← head_of e t k
   control ← long_number c
   on ← state_of state
-  Ok (set_control control on))
+  Ok (call head (set_control control on))
 set_line fields = Err Shape
 
 abbrev pub is_empty : List ℕ → Bool
 is_empty word = length word == 0
 
 -- no word of a step is empty
-abbrev pub shaped : List (List ℕ) → Result Step ScriptCode → Result Step ScriptCode
-shaped fields step = if list_any is_empty fields then Err Shape else step
+abbrev pub shaped : List (List ℕ) → Result (List (List ℕ)) ScriptCode
+shaped fields = if list_any is_empty fields then Err Shape else Ok fields
 
 -- the first word says which step it is
 unfoldable pub step_of_words : List (List ℕ) → Result Step ScriptCode
 step_of_words [] = Err Word
 step_of_words (first ∷ fields) =
-    if bytes_eq first (codes "new") then shaped fields (new_line fields)
-    else if bytes_eq first (codes "get") then shaped fields (get_line fields)
-    else if bytes_eq first (codes "set") then shaped fields (set_line fields)
+    if bytes_eq first (codes "new") then shaped fields >>= new_line
+    else if bytes_eq first (codes "get") then shaped fields >>= get_line
+    else if bytes_eq first (codes "set") then shaped fields >>= set_line
     else Err Word
 
 -- words are separated by one space
@@ -91,12 +99,6 @@ unfoldable pub step_of : List ℕ → Result Step ScriptCode
 step_of line = if is_utf8 line then step_of_words (slice_split (λ b. b == 32) line) else Err NotUtf8
 
 -- ---- the whole text
-
--- a line without the CR at its end
-abbrev pub without_cr : List ℕ → List ℕ
-without_cr [] = []
-without_cr (b ∷ []) = if b == 13 then [] else b ∷ []
-without_cr (b ∷ c ∷ line) = b ∷ without_cr (c ∷ line)
 
 -- a line that is empty or begins with `#` is no step
 abbrev pub is_step : List ℕ → Bool
@@ -123,9 +125,9 @@ steps_from n [] = Ok []
 steps_from n (line ∷ lines) =
     if is_step line then at_line n (step_of line) (steps_from (n + 1) lines) else steps_from (n + 1) lines
 
--- lines end in LF, which the last may lack
+-- lines end in LF, which the last may lack. A CR before that end is dropped
 abbrev pub lines_of : List ℕ → List (List ℕ)
-lines_of text = map without_cr (slice_split (λ b. b == 10) text)
+lines_of text = map strip_carriage_return (slice_split (λ b. b == 10) text)
 
 -- the steps of a text, whose lines are counted from 1; a text over the limit has line 0
 unfoldable pub steps_of : List ℕ → Result (List Step) BadLine

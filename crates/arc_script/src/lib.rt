@@ -10,9 +10,15 @@
 //! empty or begins with `#` is no step. Words are separated by one space.
 #![tactic(auto)]
 
+mod end;
+mod laws;
+mod lines;
 mod script;
 mod step;
+mod words;
 
+use end::LineEnd;
+pub use laws::numbers_have_one_spelling;
 pub use script::read_script;
 pub use step::{MAX_SCRIPT, ScriptCode, ScriptEnd, Step};
 

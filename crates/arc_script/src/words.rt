@@ -1,0 +1,92 @@
+//! Reading single words.
+ghost use Rattle.std.specs.Prelude.{◌≡◌, ◌<◌, ◌≤◌, IfOk};
+ghost use Rattle.std.specs.Char.{is_ascii_digit};
+ghost use Rattle.std.specs.List.{list_all};
+ghost use Rattle.arc_command.specs.Valid.{IsName};
+ghost use Rattle.arc_script.specs.Words.{is_number, number_up_to, long_number, endpoint_of, name_of, state_of};
+ghost use Rattle.arc_script.specs.Reading.{Spells};
+
+use crate::ScriptCode;
+
+/// The highest endpoint.
+const LAST_ENDPOINT: u64 = 4;
+
+/// Whether a word has digits alone.
+fn are_digits(word: &[u8]) -> bool
+    ensures { result ≡ list_all is_ascii_digit word.now }
+{
+    word.iter().all(|digit| digit.is_ascii_digit())
+}
+
+/// Whether a word is `0`, or digits that don't begin with 0.
+#[tactic(auto, using(crate::proofs::Texts::digits_by_all))]
+fn is_number(word: &[u8]) -> bool
+    ensures { result ≡ is_number word.now }
+{
+    match word {
+        [] => false,
+        [digit] => digit.is_ascii_digit(),
+        [first, ..] => *first != b'0' && are_digits(word),
+    }
+}
+
+/// A number of at most so much.
+#[tactic(auto, unfolding(crate::specs::Words::number_up_to))]
+pub fn read_number(most: u64, word: &str) -> Result<u64, ScriptCode>
+    ensures exact { result ≡ number_up_to most word.now }
+    ensures within { IfOk result (λ n. n ≤ most) }
+{
+    if !is_number(word.as_bytes()) {
+        return Err(ScriptCode::Number);
+    }
+    let Ok(number) = word.parse::<u64>() else {
+        return Err(ScriptCode::Number);
+    };
+    if number > most {
+        return Err(ScriptCode::Number);
+    }
+    Ok(number)
+}
+
+/// A number of 64 bits: a token, an identifier.
+pub fn read_long(word: &str) -> Result<u64, ScriptCode>
+    ensures { result ≡ long_number word.now }
+{
+    read_number(u64::MAX, word)
+}
+
+/// An endpoint. Of the five the first is built.
+#[tactic(auto, unfolding(crate::specs::Words::endpoint_of))]
+pub fn read_endpoint(word: &str) -> Result<u8, ScriptCode>
+    ensures exact { result ≡ endpoint_of word.now }
+    ensures within { IfOk result (λ node. node < 5) }
+{
+    match read_number(LAST_ENDPOINT, word)? {
+        0 => Ok(0),
+        _ => Err(ScriptCode::Word),
+    }
+}
+
+/// A name of 1 to 64 bytes.
+#[tactic(auto, unfolding(crate::specs::Words::name_of))]
+pub fn read_name(word: &str) -> Result<&str, ScriptCode>
+    ensures exact { Spells (λ name. name.now) result (name_of word.now) }
+    ensures within { IfOk result (λ name. IsName name.now) }
+{
+    if word.is_empty() || word.len() > 64 {
+        return Err(ScriptCode::Name);
+    }
+    Ok(word)
+}
+
+/// A state: `true` for `On`.
+#[tactic(auto, unfolding(crate::specs::Words::state_of))]
+pub fn read_state(word: &str) -> Result<bool, ScriptCode>
+    ensures { result ≡ state_of word.now }
+{
+    match word {
+        "On" => Ok(true),
+        "Off" => Ok(false),
+        _ => Err(ScriptCode::State),
+    }
+}
