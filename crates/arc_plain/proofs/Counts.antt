@@ -1,5 +1,5 @@
 -- How many commands there were, and when.
-use Rattle.std.proofs.Common.{◌≡◌, ◌+◌, List, [], ◌∷◌, length, fold, refl, arith}
+use Rattle.std.proofs.Common.{◌≡◌, ◌+◌, List, [], ◌∷◌, length, fold, max, refl, arith}
 use Rattle.arc_command.specs.declared.command.Command.{Command}
 use Rattle.arc_plain.specs.State.{Plain, fresh}
 use Rattle.arc_plain.specs.Cluster.{fold_of, next}
@@ -18,3 +18,8 @@ count-fold plain (c ∷ commands) = omega (arith, count-fold (next plain c) comm
 -- the number of commands is the length of the list
 pub places_count : (commands : List Command) → (fold_of commands).count ≡ length commands
 places_count commands = omega (arith, count-fold fresh commands)
+
+-- list time is the later of two times
+pub time_next : (plain : Plain) (c : Command) → (next plain c).time ≡ max plain.time c.at_ms
+time_next plain c =
+    next_cases (λ p. p.time ≡ max plain.time c.at_ms) plain c refl (λ name panel room free. refl) (λ entries. refl)

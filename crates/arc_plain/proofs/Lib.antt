@@ -1,2 +1,4 @@
 pub mod Steps
 pub mod Counts
+pub mod Sets
+pub mod Kept

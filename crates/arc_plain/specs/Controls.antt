@@ -86,10 +86,13 @@ abbrev pub set_by : Option Entry → ControlItem → ControlItem
 set_by None control = control
 set_by (Some entry) control = record control { on = entry.on }
 
--- the state with all entries of a batch set
+-- the controls with all entries of a batch set
+abbrev pub with_set : List Entry → List ControlItem → List ControlItem
+with_set entries controls = map (λ c. set_by (find (λ e. e.control.0 == c.control.0) entries) c) controls
+
+-- the state with them
 abbrev pub with_entries : Plain → List Entry → Plain
-with_entries plain entries =
-    record plain { controls = map (λ c. set_by (find (λ e. e.control.0 == c.control.0) entries) c) plain.controls }
+with_entries plain entries = record plain { controls = with_set entries plain.controls }
 
 -- The first unknown control refuses a batch, and then its first unknown override; else all its entries are set.
 unfoldable pub update_states : Plain → Batch → Effect

@@ -1,5 +1,5 @@
 -- What holds of the state after every list of commands.
-use Rattle.std.specs.Prelude.{ℕ, ◌≤◌, ◌<◌, List, All, AllPairs, length}
+use Rattle.std.specs.Prelude.{ℕ, ◌≡◌, ◌≢◌, ◌≤◌, ◌<◌, List, All, AllPairs, length}
 use Rattle.arc_command.specs.declared.reply.ControlItem.{ControlItem}
 use Rattle.arc_plain.specs.Controls.{most_controls}
 
@@ -15,3 +15,7 @@ pub record AreDrawn (controls : List ControlItem) (drawn : ℕ) : Type 0 where
 -- no more controls than are kept at most
 abbrev pub IsWithinLimit : List ControlItem → Type 0
 IsWithinLimit controls = length controls ≤ most_controls
+
+-- No two controls of one panel have one name.
+abbrev pub AreNamedApart : List ControlItem → Type 0
+AreNamedApart controls = AllPairs (λ earlier later. earlier.panel.0 ≡ later.panel.0 → earlier.name ≢ later.name) controls

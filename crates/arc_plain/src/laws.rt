@@ -1,9 +1,10 @@
 //! Laws of the plain cluster.
-ghost use Rattle.std.specs.Prelude.{◌≡◌, ◌++◌, ◌∷◌, [], List, length};
+ghost use Rattle.std.specs.Prelude.{◌≡◌, ◌≤◌, ◌⊎◌, ◌++◌, ◌∷◌, [], List, length};
 ghost use Rattle.arc_command.specs.declared.command.Command.{Command};
 ghost use Rattle.arc_command.specs.declared.reply.Refusal.{Refusal};
 ghost use Rattle.arc_command.specs.declared.reply.Reply.TheVariants.{Refused};
 ghost use Rattle.arc_plain.specs.State.{Plain};
+ghost use Rattle.arc_plain.specs.Laws.{AreDrawn, AreNamedApart, IsWithinLimit};
 ghost use Rattle.arc_plain.specs.Cluster.{answer, arrived, fold_of, next};
 
 /// One more command at the end of the list is one more step.
@@ -22,4 +23,34 @@ pub fn refusals_change_nothing()
 #[tactic(auto, using(crate::proofs::Counts::places_count))]
 pub fn places_count()
     ensures { (commands : List Command) → (fold_of commands).count ≡ length commands }
+{}
+
+/// List time doesn't fall: it is the later of what it was and of the command's own time.
+#[tactic(auto, using(crate::proofs::Counts::time_next))]
+pub fn time_does_not_fall()
+    ensures not_before { (plain : Plain) (c : Command) → plain.time ≤ (next plain c).time }
+    ensures not_before_the_call { (plain : Plain) (c : Command) → c.at_ms ≤ (next plain c).time }
+    ensures one_of_both { (plain : Plain) (c : Command) →
+        ((next plain c).time ≡ plain.time) ⊎ ((next plain c).time ≡ c.at_ms) }
+{}
+
+/// Identifiers of controls are drawn once, in ascending order, and a command draws at most one.
+#[tactic(auto, using(crate::proofs::Kept::drawn_fold))]
+pub fn identifiers_are_drawn_once()
+    ensures drawn { (commands : List Command) →
+        AreDrawn (fold_of commands).controls (fold_of commands).controls_drawn }
+    ensures one_a_command { (commands : List Command) →
+        (fold_of commands).controls_drawn ≤ (fold_of commands).count }
+{}
+
+/// No two controls of one panel have one name.
+#[tactic(auto, using(crate::proofs::Kept::apart_fold))]
+pub fn names_differ()
+    ensures { (commands : List Command) → AreNamedApart (fold_of commands).controls }
+{}
+
+/// No more controls are kept than the limit.
+#[tactic(auto, using(crate::proofs::Kept::within_fold))]
+pub fn limit_holds()
+    ensures { (commands : List Command) → IsWithinLimit (fold_of commands).controls }
 {}

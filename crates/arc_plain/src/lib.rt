@@ -11,4 +11,7 @@
 
 mod laws;
 
-pub use laws::{list_goes_on, places_count, refusals_change_nothing};
+pub use laws::{
+    identifiers_are_drawn_once, limit_holds, list_goes_on, names_differ, places_count,
+    refusals_change_nothing, time_does_not_fall,
+};

@@ -6,9 +6,10 @@ use Rattle.std.proofs.lemmas.List.Quantifiers.{position-Some}
 use Rattle.std.proofs.lemmas.Bool.{cases_eq, cases_lt, eq-eqb, eqb-true}
 use Rattle.arc_command.specs.declared.command.Entry.{Entry}
 use Rattle.arc_command.specs.declared.reply.ControlItem.{ControlItem}
-use Rattle.arc_plain.specs.Controls.{set_by}
+use Rattle.arc_plain.specs.Controls.{set_by, with_set}
 use Rattle.arc_plain.specs.Laws.{AreAscending}
-use Rattle.arc_state.specs.Controls.{AreKept, with_set}
+use Rattle.arc_plain.proofs.Sets.{drawn_after_sets, length_after_sets}
+use Rattle.arc_state.specs.Controls.{AreKept}
 use Rattle.arc_state.proofs.Found.{find_nowhere}
 
 -- the last of two changes decides
@@ -131,40 +132,10 @@ set_there e xs i d ascending there =
     (length-map xs f ∙ sym (length-set xs i changed))
     (λ k x below. with_set_at e xs i k d x ascending there (rw (length-map xs f) at below))
 
--- a change leaves the identifier
-control-set_by : (o : Option Entry) (c : ControlItem) → (set_by o c).control.0 ≡ c.control.0
-control-set_by None c = refl
-control-set_by (Some e) c = refl
-
--- a change leaves the identifier at each place
-control-with_set : (entries : List Entry) (xs : List ControlItem) (k : ℕ) (d : ControlItem) → k < length xs →
-    (get_or (with_set entries xs) k d).control.0 ≡ (get_or xs k d).control.0
-control-with_set entries xs k d within =
-    let find_for = λ (c : ControlItem). find (λ e. e.control.0 == c.control.0) entries in
-    let item = get_or xs k d in
-    ap (λ c. c.control.0) (get_or-map (λ c. set_by (find_for c) c) xs k d d within) ∙ control-set_by (find_for item) item
-
--- and how many there are
-length-with_set : (entries : List Entry) (xs : List ControlItem) → length (with_set entries xs) ≡ length xs
-length-with_set entries xs = length-map xs (λ c. set_by (find (λ e. e.control.0 == c.control.0) entries) c)
-
--- changes leave the identifiers in order
-pub ascending_after_sets : (entries : List Entry) (xs : List ControlItem) →
-    AreAscending xs → AreAscending (with_set entries xs)
-ascending_after_sets entries xs ascending i j d before within =
-    let within' : j < length xs = omega (arith, length-with_set entries xs) in
-    let id_at = λ (k : ℕ). control-with_set entries xs k d in
-    omega (arith, id_at i (omega arith), id_at j within', ascending i j d before within')
-
 -- controls that were set are kept as the others are
 pub kept_after_sets : (entries : List Entry) (xs : List ControlItem) (drawn : ℕ) →
     AreKept xs drawn → AreKept (with_set entries xs) drawn
 kept_after_sets entries xs drawn kept = record {
-  are_drawn = record {
-    ascending = ascending_after_sets entries xs kept.are_drawn.ascending;
-    drawn_before = λ k d within.
-        let within' : k < length xs = omega (arith, length-with_set entries xs) in
-        rw (control-with_set entries xs k d within') (kept.are_drawn.drawn_before k d within');
-  };
-  within_limit = omega (arith, length-with_set entries xs, kept.within_limit);
+  are_drawn = drawn_after_sets entries xs drawn kept.are_drawn;
+  within_limit = omega (arith, length_after_sets entries xs, kept.within_limit);
 }

@@ -1,10 +1,9 @@
 -- What an operation does to the controls that are kept.
-use Rattle.std.specs.Prelude.{ℕ, ◌≡◌, ◌==◌, List, find, map}
-use Rattle.arc_command.specs.declared.command.Entry.{Entry}
+use Rattle.std.specs.Prelude.{ℕ, ◌≡◌, List}
 use Rattle.arc_command.specs.declared.reply.ControlItem.{ControlItem}
 use Rattle.arc_command.specs.declared.reply.Reply.{Reply}
 use Rattle.arc_plain.specs.State.{Plain}
-use Rattle.arc_plain.specs.Controls.{Effect, set_by}
+use Rattle.arc_plain.specs.Controls.{Effect}
 use Rattle.arc_plain.specs.Cluster.{left_by, reply_of}
 use Rattle.arc_plain.specs.Laws.{AreDrawn, IsWithinLimit}
 
@@ -26,7 +25,3 @@ Does effect controls drawn reply controls' drawn' =
     (reply ≡ reply_of (effect (plain_of time count controls drawn)))
     × (plain_of time count controls' drawn'
     ≡ left_by (plain_of time count controls drawn) (effect (plain_of time count controls drawn)))
-
--- the controls with all these entries set; where two entries name one control, the first decides
-abbrev pub with_set : List Entry → List ControlItem → List ControlItem
-with_set entries controls = map (λ c. set_by (find (λ e. e.control.0 == c.control.0) entries) c) controls

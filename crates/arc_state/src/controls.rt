@@ -1,9 +1,9 @@
 //! What the operations on controls do to those that are kept.
 ghost use Rattle.std.specs.Prelude.{ℕ, ◌≡◌, ◌<◌, ◌≤◌, ◌+◌, ◌-◌, ◌^◌, ◌==◌, [], ◌∷◌, IfOk, OnErr, find, is_some, not, option_copied};
 ghost use Rattle.arc_plain.specs.Cluster.{effect_of};
-ghost use Rattle.arc_plain.specs.Controls.{create_control, get_control_state, update_states};
+ghost use Rattle.arc_plain.specs.Controls.{create_control, get_control_state, update_states, with_set};
 ghost use Rattle.arc_plain.specs.Laws.{AreAscending};
-ghost use Rattle.arc_state.specs.Controls.{AreKept, Does, with_set};
+ghost use Rattle.arc_state.specs.Controls.{AreKept, Does};
 
 use crate::lookup::{control_of, holder_of, place_of};
 use arc_bytes::Memory;
@@ -142,7 +142,7 @@ fn set_all(controls: &mut [ControlItem], entries: &[Entry])
 }
 
 /// Sets the control of one entry.
-#[tactic(auto, using(crate::proofs::Sets::set_nowhere, crate::proofs::Sets::set_there, crate::proofs::Sets::ascending_after_sets))]
+#[tactic(auto, using(crate::proofs::Sets::set_nowhere, crate::proofs::Sets::set_there, arc_plain::proofs::Sets::ascending_after_sets))]
 fn set(controls: &mut [ControlItem], entry: Entry)
     requires { AreAscending controls.old }
     ensures one { controls.new ≡ with_set (entry ∷ []) controls.old }

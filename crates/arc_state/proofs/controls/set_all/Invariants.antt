@@ -1,6 +1,6 @@
 use Rattle.std.proofs.Common.{◌≡◌, drop}
 use Rattle.arc_plain.specs.Laws.{AreAscending}
-use Rattle.arc_state.specs.Controls.{with_set}
+use Rattle.arc_plain.specs.Controls.{with_set}
 use Rattle.arc_state.proofs.controls.set_all.Given as goal
 
 -- the last entries are set

@@ -1,0 +1,55 @@
+-- Setting controls changes nothing of them but whether they are On.
+use Rattle.std.proofs.Common.{◌≡◌, ℕ, ◌<◌, ◌≤◌, ◌==◌, List, map, find, length, get_or, Option, Some, None, AllPairs, refl, arith}
+use Rattle.std.proofs.lemmas.List.{get_or-map, length-map}
+use Rattle.arc_command.specs.declared.command.Entry.{Entry}
+use Rattle.arc_command.specs.declared.reply.ControlItem.{ControlItem}
+use Rattle.arc_plain.specs.Controls.{set_by, with_set}
+use Rattle.arc_plain.specs.Laws.{AreAscending, AreDrawn}
+
+-- the same control, On or Off
+pub record IsSameControl (c c' : ControlItem) : Type 0 where
+  pub panel : c'.panel.0 ≡ c.panel.0
+  pub control : c'.control.0 ≡ c.control.0
+  pub name : c'.name ≡ c.name
+
+-- a change leaves the control
+set_by_same : (entry : Option Entry) (c : ControlItem) → IsSameControl c (set_by entry c)
+set_by_same None c = record { panel = refl; control = refl; name = refl }
+set_by_same (Some entry) c = record { panel = refl; control = refl; name = refl }
+
+-- at each place
+set_at : (entries : List Entry) (xs : List ControlItem) (k : ℕ) (d : ControlItem) → k < length xs →
+    IsSameControl (get_or xs k d) (get_or (with_set entries xs) k d)
+set_at entries xs k d within =
+    let for_it = λ (c : ControlItem). find (λ e. e.control.0 == c.control.0) entries in
+    rw (get_or-map (λ c. set_by (for_it c) c) xs k d d within) (set_by_same (for_it (get_or xs k d)) (get_or xs k d))
+
+-- and there are as many
+pub length_after_sets : (entries : List Entry) (xs : List ControlItem) → length (with_set entries xs) ≡ length xs
+length_after_sets entries xs = length-map xs (λ c. set_by (find (λ e. e.control.0 == c.control.0) entries) c)
+
+-- what holds of any two controls, whether they are On or Off, holds of them after they were set
+pub pairs_after_sets : (R : ControlItem → ControlItem → Type 0) →
+    ((a b a' b' : ControlItem) → IsSameControl a a' → IsSameControl b b' → R a b → R a' b') →
+    (entries : List Entry) (xs : List ControlItem) → AllPairs R xs → AllPairs R (with_set entries xs)
+pairs_after_sets R keeps entries xs before i j d earlier within =
+    let within' : j < length xs = omega (arith, length_after_sets entries xs) in
+    keeps (get_or xs i d) (get_or xs j d) (get_or (with_set entries xs) i d) (get_or (with_set entries xs) j d)
+        (set_at entries xs i d (omega arith)) (set_at entries xs j d within') (before i j d earlier within')
+
+-- changes leave the identifiers in order
+pub ascending_after_sets : (entries : List Entry) (xs : List ControlItem) →
+    AreAscending xs → AreAscending (with_set entries xs)
+ascending_after_sets =
+    pairs_after_sets (λ earlier later. earlier.control.0 < later.control.0)
+        (λ a b a' b' same same' below. omega (arith, same.control, same'.control))
+
+-- and they are those that were drawn
+pub drawn_after_sets : (entries : List Entry) (xs : List ControlItem) (drawn : ℕ) →
+    AreDrawn xs drawn → AreDrawn (with_set entries xs) drawn
+drawn_after_sets entries xs drawn before = record {
+  ascending = ascending_after_sets entries xs before.ascending;
+  drawn_before = λ k d within.
+      let within' : k < length xs = omega (arith, length_after_sets entries xs) in
+      rw (set_at entries xs k d within').control (before.drawn_before k d within');
+}
