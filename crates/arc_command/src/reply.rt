@@ -19,7 +19,7 @@ pub enum Named {
     Rule(RuleId),
 }
 
-/// Why a command changed nothing.
+/// Why a command changed nothing but list time and the number of commands.
 #[derive(Debug, Drop)]
 pub enum Refusal {
     /// The caller's token is above the place of the command in the list.

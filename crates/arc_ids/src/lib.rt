@@ -1,6 +1,6 @@
 //! The identifiers of everything that a command can name, and the texts that replies show for them.
 //!
-//! It stands on `arc_bytes` for `Memory` alone. Every crate that speaks of commands stands on it.
+//! It stands on `hex` for the digits and on `arc_bytes` for `Memory`. Every crate that speaks of commands stands on it.
 //!
 //! The law that it keeps: an identifier has one text, a fixed name and sixteen lower-case hexadecimal digits.
 #![tactic(auto)]
