@@ -17,7 +17,8 @@ came_more (Some left) between new given buf n (rest, here, is) read =
 -- The first n bytes went out, and then the first m of the rest.
 pub appends_more : (old between new : Option (List ℕ)) (n m : ℕ) (bytes rest : List ℕ)
     → rest ≡ drop n bytes → Appends old between (take n bytes) → Appends between new (take m rest) → Appends old new (take (n + m) bytes)
-appends_more None between new n m bytes rest is before last = tt
+appends_more None between new n m bytes rest is before last =
+    let P : Option (List ℕ) → Type 0 = λ s. Appends s new (take m rest) in subst P before last
 appends_more (Some taken) between new n m bytes rest is before last =
     let P : Option (List ℕ) → Type 0 = λ s. Appends s new (take m rest) in
     let more : Appends (Some (taken ++ take n bytes)) new (take m rest) = subst P before last in

@@ -1,7 +1,7 @@
 -- What reading a whole input and writing a whole piece do.
 use Rattle.std.specs.Prelude.{ℕ, ◌≡◌, ◌<◌, ◌≤◌, List, length, Option, Result, Ok, Err}
 use Rattle.std.specs.Global.{Vec}
-use Rattle.arc_bytes.specs.Sink.{Appends, AppendsFront}
+use Rattle.arc_bytes.specs.Sink.{Appends, AppendsPrefix}
 use Rattle.arc_bytes.specs.Source.{AtEnd, Came}
 use Rattle.arc_bytes.specs.declared.all.ReadEnd.{ReadEnd}
 use Rattle.arc_bytes.specs.declared.all.ReadEnd.TheVariants as ends
@@ -19,7 +19,7 @@ IsAnswerFor given left limit (Err ends.Memory) = length given ≤ limit
 abbrev pub ReadsAll : Option (List ℕ) → Option (List ℕ) → ℕ → Result (Vec ℕ) ReadEnd → Type 0
 ReadsAll old new limit result = (given : List ℕ) × Came old new given × IsAnswerFor given new limit result
 
--- Writing all of these bytes: all of them went out, or after a failure a front.
+-- Writing all of these bytes: all of them went out, or after a failure a prefix.
 abbrev pub WritesAll : Option (List ℕ) → Option (List ℕ) → Result Unit Failed → List ℕ → Type 0
 WritesAll old new (Ok _) bytes = Appends old new bytes
-WritesAll old new (Err _) bytes = AppendsFront old new bytes
+WritesAll old new (Err _) bytes = AppendsPrefix old new bytes

@@ -51,7 +51,7 @@ pub fn read_all<S: Source>(alloc: Global, src: &mut S, limit: usize) -> Result<V
     }
 }
 
-/// Writes all of these bytes. After `Failed` a front of them went out, which may be empty.
+/// Writes all of these bytes. After `Failed` a prefix of them went out, which may be empty.
 pub fn write_all<K: Sink>(out: &mut K, bytes: &[u8]) -> Result<(), Failed>
     ensures writes { WritesAll (K.taken out.old) (K.taken out.new) result bytes.now }
     ensures cause { HasCause (K.faults out.old) (K.faults out.new) result }

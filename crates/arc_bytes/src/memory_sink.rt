@@ -86,7 +86,7 @@ impl Sink for MemorySink {
     fn write(&mut self, bytes: &[u8]) -> Result<usize, Failed>
         ensures within { IfOk result (λ n. n ≤ length bytes.now) }
         ensures writes { Writes (Some self.old.taken) (Some self.new.taken) result bytes.now }
-        ensures stuck { result ≡ Ok 0 → bytes.now ≢ [] → HasRisen self.old.faults self.new.faults }
+        ensures nothing_taken { result ≡ Ok 0 → bytes.now ≢ [] → HasRisen self.old.faults self.new.faults }
         ensures cause { HasCause self.old.faults self.new.faults result }
         // It fails at the chosen calls, and elsewhere only where it has no memory for the piece.
         ensures chosen { Contains self.old.failing self.old.calls → IsErr result }

@@ -14,11 +14,11 @@ pub trait Sink {
     ghost faults: { Self → ℕ };
 
     /// Takes the first bytes of the piece behind those that it took before, and answers how many.
-    /// `Failed` has taken a front of the piece, which may be empty.
+    /// `Failed` has taken a prefix of the piece, which may be empty.
     fn write(&mut self, bytes: &[u8]) -> Result<usize, Failed>
         ensures within { IfOk result (λ n. n ≤ length bytes.now) }
         ensures writes { Writes (taken self.old) (taken self.new) result bytes.now }
         // To take nothing of a piece that isn't empty counts as a fault.
-        ensures stuck { result ≡ Ok 0 → bytes.now ≢ [] → HasRisen (faults self.old) (faults self.new) }
+        ensures nothing_taken { result ≡ Ok 0 → bytes.now ≢ [] → HasRisen (faults self.old) (faults self.new) }
         ensures cause { HasCause (faults self.old) (faults self.new) result };
 }

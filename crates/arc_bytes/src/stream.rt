@@ -79,7 +79,7 @@ impl<W: Write> StreamSink<W> {
         StreamSink { writer, faults: 0 }
     }
 
-    /// How many writes have failed or were stuck, up to 2^64 - 1.
+    /// How many writes have failed or took nothing of a piece, up to 2^64 - 1.
     pub fn faults(&self) -> u64
         ensures { result ≡ self.now }
     {
@@ -95,7 +95,7 @@ impl<W: Write> Sink for StreamSink<W> {
     /// What it took has left the writer's buffer too, since the answer tells others that it is out.
     fn write(&mut self, bytes: &[u8]) -> Result<usize, Failed>
         ensures within { IfOk result (λ n. n ≤ length bytes.now) }
-        ensures stuck { result ≡ Ok 0 → bytes.now ≢ [] → HasRisen self.old self.new }
+        ensures nothing_taken { result ≡ Ok 0 → bytes.now ≢ [] → HasRisen self.old self.new }
         ensures cause { HasCause self.old self.new result }
         ensures count { self.new ≡ faults_after_write self.old result bytes.now }
     {

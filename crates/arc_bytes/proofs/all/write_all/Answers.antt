@@ -1,4 +1,4 @@
--- What one write took stands behind the front that went out before.
+-- What one write took stands behind the prefix that went out before.
 use Rattle.std.proofs.Common.{arith, ℕ, ◌+◌, length-take, length-drop}
 use Rattle.std.proofs.lemmas.List.{take_rest}
 use Rattle.arc_bytes.proofs.Pieces.{appends_more}

@@ -1,4 +1,4 @@
--- What went out so far is a front of the piece, and the count of faults hasn't fallen.
+-- What went out so far is a prefix of the piece, and the count of faults hasn't fallen.
 use Rattle.std.proofs.Common.{length, ◌-◌, ◌≤◌, take}
 use Rattle.arc_bytes.specs.Sink.{Appends}
 use Rattle.arc_bytes.proofs.all.write_all.Given as goal
