@@ -14,6 +14,10 @@ StandsFor state plain = state ≡ plain
 abbrev pub count_of : State → ℕ
 count_of state = state.count
 
+-- list time
+abbrev pub time_of : State → ℕ
+time_of state = state.time
+
 -- In every plain state that the old value stands for, the reply is the plain cluster's answer, and the new value
 -- stands for the next state.
 abbrev pub Applies : State → Command → Reply → State → Type 0

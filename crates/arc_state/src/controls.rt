@@ -12,6 +12,9 @@ use arc_command::{
 };
 use std::alloc::Global;
 
+/// The panel that a cluster starts with, the only one.
+const ONLY_PANEL: PanelId = PanelId(1);
+
 /// The most controls that are kept.
 const MOST_CONTROLS: usize = 256;
 
@@ -58,7 +61,7 @@ fn create(
     ensures items_unchanged { OnErr result (controls.new.items ≡ controls.old.items) }
     ensures drawn_unchanged { OnErr result (drawn.new ≡ drawn.old) }
 {
-    if panel.0 != 1 {
+    if panel != ONLY_PANEL {
         return Ok(not_found(Named::Panel(panel)));
     }
     if controls.len() >= MOST_CONTROLS {
@@ -90,6 +93,7 @@ fn create(
 /// Whether a control is On.
 #[tactic(auto, unfolding(arc_plain::specs::Controls::get_control_state))]
 fn get(alloc: Global, controls: &[ControlItem], id: ControlId) -> Result<Reply, Memory>
+    requires { AreAscending controls.now }
     ensures { IfOk result (λ reply. (drawn : ℕ) →
         Does (λ plain. get_control_state plain id) controls.now drawn reply controls.now drawn) }
 {
@@ -124,6 +128,7 @@ fn update(controls: &mut [ControlItem], batch: &Batch) -> Reply
 
 /// The first entry whose control isn't there.
 fn first_unknown<'a>(controls: &[ControlItem], entries: &'a [Entry]) -> Option<&'a Entry>
+    requires { AreAscending controls.now }
     ensures { option_copied result ≡ find (λ e. not (is_some (find (λ c. c.control.0 == e.control.0) controls.now))) entries.now }
 {
     entries

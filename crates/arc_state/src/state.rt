@@ -2,7 +2,7 @@
 ghost use Rattle.std.specs.Prelude.{◌-◌, ◌<◌, ◌≡◌, ◌^◌, IfOk, OnErr};
 ghost use Rattle.arc_command.specs.Valid.{IsValid};
 ghost use Rattle.arc_plain.specs.State.{fresh as fresh_state};
-ghost use Rattle.arc_state.specs.State.{Applies, StandsFor, count_of};
+ghost use Rattle.arc_state.specs.State.{Applies, StandsFor, count_of, time_of};
 
 use crate::controls::perform;
 use arc_bytes::Memory;
@@ -70,5 +70,12 @@ impl State {
         ensures { result ≡ count_of self.now }
     {
         self.count
+    }
+
+    /// List time: the greatest time of the commands so far, in milliseconds, and 0 before the first.
+    pub fn time(&self) -> u64
+        ensures { result ≡ time_of self.now }
+    {
+        self.time
     }
 }
