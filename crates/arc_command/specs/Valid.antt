@@ -1,5 +1,5 @@
 -- The limits of operations.
-use Rattle.std.specs.Prelude.{ℕ, ◌≡◌, ◌≤◌, List, length}
+use Rattle.std.specs.Prelude.{ℕ, ◌≡◌, ◌≤◌, List, length, ⊤}
 use Rattle.arc_command.specs.declared.command.Op.{Op}
 use Rattle.arc_command.specs.declared.command.Op.TheVariants.{CreateRoutingControl, GetRoutingControlState, UpdateRoutingControlState}
 
@@ -10,5 +10,5 @@ IsName name = (1 ≤ length name) × (length name ≤ 64)
 -- an operation within its limits
 abbrev pub IsValid : Op → Type 0
 IsValid (CreateRoutingControl name panel) = IsName name
-IsValid (GetRoutingControlState control) = Unit {0}
+IsValid (GetRoutingControlState control) = ⊤
 IsValid (UpdateRoutingControlState batch) = (length batch.entries ≡ 1) × (length batch.overrides ≤ 16)

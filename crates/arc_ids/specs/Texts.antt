@@ -10,11 +10,14 @@ use Rattle.arc_ids.specs.declared.named_id.RuleId.{RuleId}
 unfoldable pub digits_of : ℕ → List ℕ
 digits_of n = encode_lower (to_be_bytes w64 n)
 
+-- a panel's text
 unfoldable pub panel_text : PanelId → List ℕ
 panel_text panel = codes "arn:arc:panel/" ++ digits_of panel.0
 
+-- a control's text
 unfoldable pub control_text : ControlId → List ℕ
 control_text control = codes "arn:arc:control/" ++ digits_of control.0
 
+-- a rule's text
 unfoldable pub rule_text : RuleId → List ℕ
 rule_text rule = codes "arn:arc:rule/" ++ digits_of rule.0

@@ -28,8 +28,8 @@ abbrev pub arrived : Plain → Command → Plain
 arrived plain c = record plain { time = max plain.time c.at_ms; count = plain.count + 1 }
 
 -- A token ahead is told before anything else is looked at.
-abbrev pub outcome_of : Plain → Command → Effect
-outcome_of plain c =
+abbrev pub effect_at : Plain → Command → Effect
+effect_at plain c =
     if is_ahead c.token plain.count then Err (TokenAhead c.token plain.count) else effect_of (arrived plain c) c.op
 
 -- the reply that an effect gives
@@ -44,11 +44,11 @@ left_by found (Err refusal) = found
 
 -- what a command answers in a state
 abbrev pub answer : Plain → Command → Reply
-answer plain c = reply_of (outcome_of plain c)
+answer plain c = reply_of (effect_at plain c)
 
 -- the state after a command
 abbrev pub next : Plain → Command → Plain
-next plain c = left_by (arrived plain c) (outcome_of plain c)
+next plain c = left_by (arrived plain c) (effect_at plain c)
 
 -- the state after a list of commands, from the start
 abbrev pub fold_of : List Command → Plain

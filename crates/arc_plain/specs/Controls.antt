@@ -29,18 +29,18 @@ abbrev pub ◌>>=◌ : {A B : Type 0} → Result A Refusal → (A → Result B R
 (Err refusal) >>= f = Err refusal
 
 -- to go on where the test holds, and to refuse elsewhere
-abbrev pub require : Bool → Refusal → Result Bool Refusal
-require passes refusal = if passes then Ok passes else Err refusal
+abbrev pub require : Bool → Refusal → Result (Unit {0}) Refusal
+require passes refusal = if passes then Ok tt else Err refusal
+
+-- to go on where nothing was found, and to refuse by what was
+abbrev pub refuse_found : {A : Type 0} → (A → Refusal) → Option A → Result (Unit {0}) Refusal
+refuse_found why None = Ok tt
+refuse_found why (Some x) = Err (why x)
 
 -- the control that was looked for, or that it isn't there
 abbrev pub found : ControlId → Option ControlItem → Result ControlItem Refusal
 found id None = Err (NotFound (named.Control id))
 found id (Some control) = Ok control
-
--- to go on where nothing of a kind is unknown, and to refuse with the first that is
-abbrev pub none_unknown : {A : Type 0} → (A → Named) → Option A → Result Bool Refusal
-none_unknown name None = Ok false
-none_unknown name (Some first) = Err (NotFound (name first))
 
 -- ---- to make a control
 
@@ -48,16 +48,12 @@ none_unknown name (Some first) = Err (NotFound (name first))
 abbrev pub holder_of : Plain → PanelId → List ℕ → Option ControlItem
 holder_of plain panel name = find (λ c. (c.panel.0 == panel.0) && bytes_eq c.name name) plain.controls
 
-abbrev pub name_is_free : Option ControlItem → Result Bool Refusal
-name_is_free None = Ok false
-name_is_free (Some holder) = Err (NameTaken (named.Control holder.control))
-
 -- the state with one control more, Off
 abbrev pub with_control : Plain → List ℕ → PanelId → ControlId → Plain
 with_control plain name panel id =
     record plain {
       controls = plain.controls ++ record { panel = panel; control = id; name = name; on = false } ∷ [];
-      controls_drawn = id.0;
+      controls_drawn = plain.controls_drawn + 1;
     }
 
 -- the identifier of the next control: they are drawn from 1 on
@@ -69,11 +65,12 @@ unfoldable pub create_control : Plain → List ℕ → PanelId → Effect
 create_control plain name panel = do
   known ← require (has_panel plain panel) (NotFound (named.Panel panel))
   room ← require (nat_lt (length plain.controls) most_controls) (Limit (length plain.controls))
-  free ← name_is_free (holder_of plain panel name)
+  free ← refuse_found (λ holder. NameTaken (named.Control holder.control)) (holder_of plain panel name)
   Ok (Control panel name (next_control plain), with_control plain name panel (next_control plain))
 
 -- ---- to read a control
 
+-- whether a control is On
 unfoldable pub get_control_state : Plain → ControlId → Effect
 get_control_state plain id = do
   control ← found id (control_of plain id)
@@ -97,6 +94,6 @@ with_entries plain entries = record plain { controls = with_set entries plain.co
 -- The first unknown control refuses a batch, and then its first unknown override; else all its entries are set.
 unfoldable pub update_states : Plain → Batch → Effect
 update_states plain batch = do
-  controls ← none_unknown (λ e. named.Control e.control) (find (λ e. not (has_control plain e.control)) batch.entries)
-  rules ← none_unknown named.Rule (find (λ r. not (has_rule plain r)) batch.overrides)
+  controls ← refuse_found (λ e. NotFound (named.Control e.control)) (find (λ e. not (has_control plain e.control)) batch.entries)
+  rules ← refuse_found (λ r. NotFound (named.Rule r)) (find (λ r. not (has_rule plain r)) batch.overrides)
   Ok (Empty, with_entries plain batch.entries)

@@ -32,5 +32,6 @@ has_rule plain rule = false
 abbrev pub control_of : Plain → ControlId → Option ControlItem
 control_of plain control = find (λ c. c.control.0 == control.0) plain.controls
 
+-- whether there is one
 abbrev pub has_control : Plain → ControlId → Bool
 has_control plain control = is_some (control_of plain control)

@@ -1,5 +1,5 @@
 //! Laws of the plain cluster.
-ghost use Rattle.std.specs.Prelude.{◌≡◌, ◌≤◌, ◌⊎◌, ◌++◌, ◌∷◌, [], List, length};
+ghost use Rattle.std.specs.Prelude.{◌≡◌, ◌+◌, ◌≤◌, ◌⊎◌, ◌++◌, ◌∷◌, [], List, length};
 ghost use Rattle.arc_command.specs.declared.command.Command.{Command};
 ghost use Rattle.arc_command.specs.declared.reply.Refusal.{Refusal};
 ghost use Rattle.arc_command.specs.declared.reply.Reply.TheVariants.{Refused};
@@ -34,12 +34,16 @@ pub fn time_does_not_fall()
         ((next plain c).time ≡ plain.time) ⊎ ((next plain c).time ≡ c.at_ms) }
 {}
 
-/// Identifiers of controls are drawn once, in ascending order, and a command draws at most one.
-#[tactic(auto, using(crate::proofs::Kept::drawn_fold))]
+/// Identifiers of controls are drawn once, in ascending order. A command draws at most one, and gives none back.
+#[tactic(auto, using(crate::proofs::Kept::drawn_fold, crate::proofs::Counts::drawn_next))]
 pub fn identifiers_are_drawn_once()
     ensures drawn { (commands : List Command) →
         AreDrawn (fold_of commands).controls (fold_of commands).controls_drawn }
-    ensures one_a_command { (commands : List Command) →
+    ensures one_a_command { (plain : Plain) (c : Command) →
+        (next plain c).controls_drawn ≤ plain.controls_drawn + 1 }
+    ensures none_given_back { (plain : Plain) (c : Command) →
+        plain.controls_drawn ≤ (next plain c).controls_drawn }
+    ensures no_more_than_commands { (commands : List Command) →
         (fold_of commands).controls_drawn ≤ (fold_of commands).count }
 {}
 

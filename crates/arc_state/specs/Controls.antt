@@ -19,8 +19,8 @@ pub record AreKept (controls : List ControlItem) (drawn : ℕ) : Type 0 where
 
 -- At every list time and number of commands, the reply is the one that the effect gives, and the controls and the
 -- number of identifiers are those that it leaves.
-abbrev pub Does : (Plain → Effect) → List ControlItem → ℕ → Reply → List ControlItem → ℕ → Type 0
-Does effect controls drawn reply controls' drawn' =
+abbrev pub HasEffect : (Plain → Effect) → List ControlItem → ℕ → Reply → List ControlItem → ℕ → Type 0
+HasEffect effect controls drawn reply controls' drawn' =
     (time count : ℕ) →
     (reply ≡ reply_of (effect (plain_of time count controls drawn)))
     × (plain_of time count controls' drawn'

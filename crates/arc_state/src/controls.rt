@@ -3,7 +3,7 @@ ghost use Rattle.std.specs.Prelude.{ℕ, ◌≡◌, ◌<◌, ◌≤◌, ◌+◌,
 ghost use Rattle.arc_plain.specs.Cluster.{effect_of};
 ghost use Rattle.arc_plain.specs.Controls.{create_control, get_control_state, update_states, with_set};
 ghost use Rattle.arc_plain.specs.Laws.{AreAscending};
-ghost use Rattle.arc_state.specs.Controls.{AreKept, Does};
+ghost use Rattle.arc_state.specs.Controls.{AreKept, HasEffect};
 
 use crate::lookup::{control_of, holder_of, place_of};
 use arc_bytes::Memory;
@@ -18,7 +18,7 @@ const ONLY_PANEL: PanelId = PanelId(1);
 /// The most controls that are kept.
 const MOST_CONTROLS: usize = 256;
 
-/// Does an operation. After want of memory nothing has changed.
+/// HasEffect an operation. After want of memory nothing has changed.
 pub(crate) fn perform(
     alloc: Global,
     controls: &mut Vec<ControlItem>,
@@ -30,7 +30,7 @@ pub(crate) fn perform(
     ensures kept { AreKept controls.new.items drawn.new }
     ensures draws { drawn.new ≤ drawn.old + 1 }
     ensures does { IfOk result (λ reply.
-        Does (λ plain. effect_of plain op.now)
+        HasEffect (λ plain. effect_of plain op.now)
         controls.old.items drawn.old reply controls.new.items drawn.new) }
     ensures items_unchanged { OnErr result (controls.new.items ≡ controls.old.items) }
     ensures drawn_unchanged { OnErr result (drawn.new ≡ drawn.old) }
@@ -56,7 +56,7 @@ fn create(
     ensures kept { AreKept controls.new.items drawn.new }
     ensures draws { drawn.new ≤ drawn.old + 1 }
     ensures does { IfOk result (λ reply.
-        Does (λ plain. create_control plain name.now panel)
+        HasEffect (λ plain. create_control plain name.now panel)
         controls.old.items drawn.old reply controls.new.items drawn.new) }
     ensures items_unchanged { OnErr result (controls.new.items ≡ controls.old.items) }
     ensures drawn_unchanged { OnErr result (drawn.new ≡ drawn.old) }
@@ -95,7 +95,7 @@ fn create(
 fn get(alloc: Global, controls: &[ControlItem], id: ControlId) -> Result<Reply, Memory>
     requires { AreAscending controls.now }
     ensures { IfOk result (λ reply. (drawn : ℕ) →
-        Does (λ plain. get_control_state plain id) controls.now drawn reply controls.now drawn) }
+        HasEffect (λ plain. get_control_state plain id) controls.now drawn reply controls.now drawn) }
 {
     let Some(control) = control_of(controls, id) else {
         return Ok(not_found(Named::Control(id)));
@@ -113,7 +113,7 @@ fn update(controls: &mut [ControlItem], batch: &Batch) -> Reply
     requires { AreAscending controls.old }
     ensures kept { (drawn : ℕ) → AreKept controls.old drawn → AreKept controls.new drawn }
     ensures does { (drawn : ℕ) →
-        Does (λ plain. update_states plain batch.now) controls.old drawn result controls.new drawn }
+        HasEffect (λ plain. update_states plain batch.now) controls.old drawn result controls.new drawn }
 {
     let entries = batch.entries.as_slice();
     if let Some(entry) = first_unknown(controls, entries) {
