@@ -1,3 +1,4 @@
 pub mod Numbers
 pub mod Texts
 pub mod Split
+pub mod Spelled
