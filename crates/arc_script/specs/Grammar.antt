@@ -6,7 +6,7 @@ use Rattle.std.specs.Str.Lines.{strip_carriage_return}
 use Rattle.arc_command.specs.declared.command.Op.{Op}
 use Rattle.arc_command.specs.declared.command.Op.TheVariants.{CreateRoutingControl, GetRoutingControlState, UpdateRoutingControlState}
 use Rattle.arc_command.specs.declared.command.TheConstants.{MAX_MS}
-use Rattle.arc_script.specs.declared.lines.Head.{Head}
+use Rattle.arc_script.specs.declared.step.Head.{Head}
 use Rattle.arc_script.specs.declared.step.ScriptCode.{ScriptCode}
 use Rattle.arc_script.specs.declared.step.ScriptCode.TheVariants.{NotUtf8, Word, Shape, TooLong}
 use Rattle.arc_script.specs.declared.step.ScriptEnd.{ScriptEnd}

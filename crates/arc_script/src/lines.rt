@@ -8,20 +8,13 @@ ghost use Rattle.arc_command.specs.Valid.{IsValid};
 ghost use Rattle.arc_command.specs.declared.command.Op.{Op};
 
 use crate::words::{read_endpoint, read_long, read_name, read_number, read_state};
+use crate::step::Head;
 use crate::{LineEnd, ScriptCode, Step};
 use arc_command::{Batch, ControlId, Entry, List, MAX_MS, Op, PanelId, Text};
 use std::alloc::{AllocError, Global};
 
 /// The one panel that there is.
 const FIRST_PANEL: PanelId = PanelId(1);
-
-/// What every call begins with: whom it is made to, when, and the caller's token.
-#[derive(Clone, Copy)]
-pub struct Head {
-    pub node: u8,
-    pub at_ms: u64,
-    pub token: u64,
-}
 
 impl Head {
     /// The call that asks for this.

@@ -4,6 +4,14 @@ use arc_command::Op;
 /// The longest script, in bytes.
 pub const MAX_SCRIPT: usize = 16_777_216;
 
+/// What every call begins with: whom it is made to, when, and the caller's token.
+#[derive(Clone, Copy)]
+pub struct Head {
+    pub node: u8,
+    pub at_ms: u64,
+    pub token: u64,
+}
+
 /// One step of a drill.
 #[derive(Debug, Drop)]
 pub enum Step {
