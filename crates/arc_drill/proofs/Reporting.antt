@@ -2,7 +2,7 @@
 use Rattle.std.proofs.Common.{◌≡◌, ℕ, ◌+◌, ◌<◌, ◌≤◌, refl, sym, ap, ◌∙◌, subst, List, [], ◌∷◌, ◌++◌, length, take, drop, Option, get_or, Result, Ok, Err, inl, inr, arith}
 use Rattle.std.specs.List.{concat}
 use Rattle.std.proofs.lemmas.List.{take_all, drop_more}
-use Rattle.arc_bytes.specs.Sink.{Appends, AppendsFront}
+use Rattle.arc_bytes.specs.Sink.{Appends, AppendsPrefix}
 use Rattle.arc_plain.specs.State.{Plain, fresh}
 use Rattle.arc_script.specs.declared.step.Step.{Step}
 use Rattle.arc_script.specs.Grammar.{BadLine}
@@ -61,14 +61,14 @@ pub wrote_none : (before : Option (List ℕ)) (read : Result (List Step) BadLine
 wrote_none before (Ok steps) = (lines_from fresh steps, tells steps, (0, inl refl, appends_nothing before))
 wrote_none before (Err bad) = appends_nothing before
 
--- the sink failed at a line: the lines before it and a front of it went out
-pub wrote_front : (steps : List Step) (k : ℕ) (state : State) (before mid now : Option (List ℕ)) (step : Step) (line : List ℕ) (r : Reported steps k state before mid) → drop k steps ≡ step ∷ drop (k + 1) steps → line ≡ line_of r.plain step → AppendsFront mid now line → Wrote before now SinkFailed (Ok steps)
+-- the sink failed at a line: the lines before it and a prefix of it went out
+pub wrote_front : (steps : List Step) (k : ℕ) (state : State) (before mid now : Option (List ℕ)) (step : Step) (line : List ℕ) (r : Reported steps k state before mid) → drop k steps ≡ step ∷ drop (k + 1) steps → line ≡ line_of r.plain step → AppendsPrefix mid now line → Wrote before now SinkFailed (Ok steps)
 wrote_front steps k state before mid now step line r at is written =
     let lines = lines_from fresh steps in
     let rest = lines_from (state_after r.plain step) (drop (k + 1) steps) in
     let more = next_line steps k r.plain step line r.left at is in
     let whole = front_after before mid now (concat (take k lines)) line (concat rest) r.gone written in
-    let front = λ (text : List ℕ). AppendsFront before now text in
+    let front = λ (text : List ℕ). AppendsPrefix before now text in
     (lines, tells steps, subst front (sym (concat_at lines k line rest more)) whole)
 
 -- the step at a place, and those after it

@@ -9,7 +9,7 @@ use Rattle.arc_plain.specs.State.{Plain, fresh}
 use Rattle.arc_plain.specs.Cluster.{answer, next, fold_of}
 use Rattle.arc_script.specs.declared.step.Step.{Step}
 use Rattle.arc_drill.specs.Lines.{slot_line, full_line}
-use Rattle.arc_drill.specs.Report.{max_slots, command_of, commands_from, list_of, Tells}
+use Rattle.arc_drill.specs.Report.{max_slots, command_at, commands_from, list_of, Tells}
 use Rattle.arc_drill.specs.Steps.{line_of, state_after, lines_from}
 use Rattle.arc_drill.proofs.Counting.{next_counts}
 
@@ -23,24 +23,24 @@ slice_get-take (suc n) (suc i) (x ∷ xs) below = slice_get-take n i xs (omega a
 -- ---- one step
 
 -- where the list has room, the line is that of a command
-line_where_room : (plain : Plain) (step : Step) → plain.count < max_slots → line_of plain step ≡ slot_line plain.count (answer plain (command_of plain.count step))
+line_where_room : (plain : Plain) (step : Step) → plain.count < max_slots → line_of plain step ≡ slot_line plain.count (answer plain (command_at plain.count step))
 line_where_room plain step room =
-    ap (λ b. cond b (slot_line plain.count (answer plain (command_of plain.count step))) (full_line max_slots)) (lt-ltb plain.count max_slots room)
+    ap (λ b. cond b (slot_line plain.count (answer plain (command_at plain.count step))) (full_line max_slots)) (lt-ltb plain.count max_slots room)
 
 -- and the state goes on
-state_where_room : (plain : Plain) (step : Step) → plain.count < max_slots → state_after plain step ≡ next plain (command_of plain.count step)
+state_where_room : (plain : Plain) (step : Step) → plain.count < max_slots → state_after plain step ≡ next plain (command_at plain.count step)
 state_where_room plain step room =
-    ap (λ b. cond b (next plain (command_of plain.count step)) plain) (lt-ltb plain.count max_slots room)
+    ap (λ b. cond b (next plain (command_at plain.count step)) plain) (lt-ltb plain.count max_slots room)
 
 -- where the list is full, the line says so
 line_where_full : (plain : Plain) (step : Step) → max_slots ≤ plain.count → line_of plain step ≡ full_line max_slots
 line_where_full plain step full =
-    ap (λ b. cond b (slot_line plain.count (answer plain (command_of plain.count step))) (full_line max_slots)) (le-ltb plain.count max_slots full)
+    ap (λ b. cond b (slot_line plain.count (answer plain (command_at plain.count step))) (full_line max_slots)) (le-ltb plain.count max_slots full)
 
 -- and the state stays
 state_where_full : (plain : Plain) (step : Step) → max_slots ≤ plain.count → state_after plain step ≡ plain
 state_where_full plain step full =
-    ap (λ b. cond b (next plain (command_of plain.count step)) plain) (le-ltb plain.count max_slots full)
+    ap (λ b. cond b (next plain (command_at plain.count step)) plain) (le-ltb plain.count max_slots full)
 
 -- ---- all steps, from a state on
 
@@ -62,7 +62,7 @@ slot_lines (step ∷ steps) plain zero c room is =
     let place : plain.count + 0 ≡ plain.count = omega arith in
     ap Some (line ∙ (ap (λ d. slot_line plain.count (answer plain d)) (same_Some _ _ is) ∙ ap (λ n. slot_line n (answer plain c)) (sym place)))
 slot_lines (step ∷ steps) plain (suc k) c room is =
-    let command = command_of plain.count step in
+    let command = command_at plain.count step in
     let later : TellsSlot steps (next plain command) (plain.count + 1) k c = subst (λ m. TellsSlot steps (next plain command) m k c) (next_counts plain command) (slot_lines steps (next plain command) k c) in
     let place : plain.count + 1 + k ≡ plain.count + suc k = omega arith in
     let state = state_where_room plain step (omega arith) in
@@ -75,7 +75,7 @@ full_lines [] plain s few beyond within = absurd (omega arith)
 full_lines (step ∷ steps) plain zero few beyond within = ap Some (line_where_full plain step (omega arith))
 full_lines (step ∷ steps) plain (suc k) few beyond within =
     ⊎_elim
-    (λ room. let command = command_of plain.count step in
+    (λ room. let command = command_at plain.count step in
       let counts = next_counts plain command in
       ap (λ p. slice_get (lines_from p steps) k) (state_where_room plain step room) ∙ full_lines steps (next plain command) k (omega arith) (omega arith) (omega arith))
     (λ full. ap (λ p. slice_get (lines_from p steps) k) (state_where_full plain step full) ∙ full_lines steps plain k few (omega arith) (omega arith))

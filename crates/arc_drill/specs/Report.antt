@@ -11,14 +11,14 @@ abbrev pub max_slots : ℕ
 max_slots = 4096
 
 -- the command of a call, which is the n-th of its node's first incarnation
-abbrev pub command_of : ℕ → Step → Command
-command_of n (Call node at_ms token op) =
+abbrev pub command_at : ℕ → Step → Command
+command_at n (Call node at_ms token op) =
     record { id = record { node = node; inc = 1; n = n }; at_ms = at_ms; token = token; op = op }
 
 -- the commands of these calls, numbered from n on
 abbrev pub commands_from : ℕ → List Step → List Command
 commands_from n [] = []
-commands_from n (step ∷ steps) = command_of n step ∷ commands_from (n + 1) steps
+commands_from n (step ∷ steps) = command_at n step ∷ commands_from (n + 1) steps
 
 -- the list of a script: its first calls, as many as the list takes
 abbrev pub list_of : List Step → List Command

@@ -3,6 +3,7 @@ ghost use Rattle.std.specs.Prelude.{◌≡◌, ◌≢◌, IfOk, Ok};
 ghost use Rattle.std.specs.List.{All};
 ghost use Rattle.arc_bytes.specs.Counts.{HasRisen};
 ghost use Rattle.arc_drill.specs.Drilled.{Wrote};
+ghost use Rattle.arc_drill.specs.Report.{command_at};
 ghost use Rattle.arc_drill.specs.Steps.{line_of, state_after};
 ghost use Rattle.arc_plain.specs.State.{Plain};
 ghost use Rattle.arc_script.specs.Steps.{IsValidStep};
@@ -47,14 +48,35 @@ fn do_step(alloc: Global, state: &mut State, step: &Step) -> Result<Vec<u8>, Mem
     ensures { IfOk result (λ line. (plain : Plain) → StandsFor state.old plain →
         (line.items ≡ line_of plain step.now) × StandsFor state.new (state_after plain step.now)) }
 {
-    let Step::Call { node, at_ms, token, op } = step;
     let slot = state.count();
     if slot >= MAX_SLOTS {
         return lines::of_full_list(alloc, MAX_SLOTS);
     }
-    let id = CommandId { node: *node, inc: 1, n: slot as u32 };
-    let op = op.copy(alloc)?;
-    let command = Command { id, at_ms: *at_ms, token: *token, op };
+    let command = command_of(alloc, slot as u32, step)?;
     let reply = state.apply(alloc, &command)?;
     lines::of_slot(alloc, slot, &reply)
+}
+
+/// The command of a call, which is the n-th of its node's first incarnation.
+fn command_of(alloc: Global, n: u32, step: &Step) -> Result<Command, Memory>
+    ensures { IfOk result (λ command. command ≡ command_at n step.now) }
+{
+    let Step::Call {
+        node,
+        at_ms,
+        token,
+        op,
+    } = step;
+    let id = CommandId {
+        node: *node,
+        inc: 1,
+        n,
+    };
+    let op = op.copy(alloc)?;
+    Ok(Command {
+        id,
+        at_ms: *at_ms,
+        token: *token,
+        op,
+    })
 }

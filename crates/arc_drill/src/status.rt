@@ -1,6 +1,6 @@
 //! How a drill ends.
 ghost use Rattle.std.specs.Prelude.{◌≡◌};
-ghost use Rattle.arc_drill.specs.Status.{number_of};
+ghost use Rattle.arc_drill.specs.Status.{exit_status};
 
 /// How a drill ended. Its number is the exit status of the program.
 #[derive(Clone, Copy, Debug, PartialEq, Eq)]
@@ -9,7 +9,7 @@ pub enum Status {
     Done,
     /// The source failed; nothing was written: 3.
     SourceFailed,
-    /// The sink failed; a front of the report went out: 4.
+    /// The sink failed; a prefix of the report, or of the line on a bad script, went out: 4.
     SinkFailed,
     /// There was no memory left; whole lines of the report went out: 5.
     Memory,
@@ -20,7 +20,7 @@ pub enum Status {
 impl Status {
     /// The exit status.
     pub fn number(self) -> u8
-        ensures { result ≡ number_of self }
+        ensures { result ≡ exit_status self }
     {
         match self {
             Status::Done => 0,

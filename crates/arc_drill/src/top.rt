@@ -8,6 +8,7 @@ use std::alloc::Global;
 
 ghost use Rattle.std.specs.Prelude.{◌≡◌, ◌≢◌, IfSome, Err};
 ghost use Rattle.arc_bytes.specs.Counts.{HasRisen};
+ghost use Rattle.arc_bytes.specs.Source.{AtEnd};
 ghost use Rattle.arc_drill.specs.Drilled.{Drilled, Wrote};
 ghost use Rattle.arc_drill.specs.Status.{IsStatus};
 ghost use Rattle.arc_script.specs.Grammar.{steps_of};
@@ -20,6 +21,7 @@ pub fn drill<S: Source, K: Sink>(alloc: Global, src: &mut S, out: &mut K) -> u8
     ensures drilled { IfSome (S.left src.old) (λ text.
         Drilled (K.taken out.old) (K.taken out.new) result (steps_of text)) }
     ensures status { IsStatus result }
+    ensures read_whole { result ≡ 0 → AtEnd (S.left src.new) }
     ensures source_failed { result ≡ 3 → HasRisen (S.faults src.old) (S.faults src.new) }
     ensures untouched { result ≡ 3 → out.new ≡ out.old }
     ensures sink_failed { result ≡ 4 → HasRisen (K.faults out.old) (K.faults out.new) }
@@ -31,6 +33,7 @@ pub fn drill<S: Source, K: Sink>(alloc: Global, src: &mut S, out: &mut K) -> u8
 fn read_and_report<S: Source, K: Sink>(alloc: Global, src: &mut S, out: &mut K) -> Status
     ensures wrote { IfSome (S.left src.old) (λ text.
         Wrote (K.taken out.old) (K.taken out.new) result (steps_of text)) }
+    ensures read_whole { result ≡ Status.Done → AtEnd (S.left src.new) }
     ensures source_failed { result ≡ Status.SourceFailed →
         HasRisen (S.faults src.old) (S.faults src.new) × (out.new ≡ out.old) }
     ensures sink_failed { result ≡ Status.SinkFailed → HasRisen (K.faults out.old) (K.faults out.new) }

@@ -6,7 +6,7 @@ use Rattle.std.specs.Cmp.Lexicographic.{pointwise}
 use Rattle.std.proofs.lemmas.Slice.Eq.{bytes_eq-Decides}
 use Rattle.arc_drill.specs.declared.status.Status.{Status}
 use Rattle.arc_drill.specs.declared.status.Status.TheVariants.{Done, SourceFailed, SinkFailed, Memory, BadScript}
-use Rattle.arc_drill.specs.Status.{number_of, IsStatus}
+use Rattle.arc_drill.specs.Status.{exit_status, IsStatus}
 use Rattle.arc_main.specs.Words.{IsDrill}
 
 -- lists of one text that are equal
