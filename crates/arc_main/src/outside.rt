@@ -1,5 +1,5 @@
 //! What the program reaches beyond its own memory: the scripts.
-ghost use Rattle.std.specs.Prelude.{◌≡◌, ◌≢◌, ◌≤◌, List, ℕ, Option, Some, IfOk, IfSome};
+ghost use Rattle.std.specs.Prelude.{◌≡◌, ◌≢◌, ◌≤◌, List, ℕ, Option, Some, Bool, is_ok, IfOk, IfSome};
 ghost use Rattle.std.specs.Option.{option_copied};
 ghost use Rattle.arc_bytes.specs.Counts.{HasCause, HasRisen};
 
@@ -13,6 +13,9 @@ pub trait Outside {
     /// The bytes that a path names, where the outside tells them; no path is standard input.
     ghost named: { Self → Option (List ℕ) → Option (List ℕ) };
 
+    /// Whether the script at a path can be opened, where the outside tells it; no path is standard input.
+    ghost opens: { Self → Option (List ℕ) → Option Bool };
+
     /// How often the outside has failed. It never falls.
     ghost faults: { Self → ℕ };
 
@@ -22,6 +25,7 @@ pub trait Outside {
         ensures opened { IfOk result (λ src.
             IfSome (named self.old (option_copied path.entry)) (λ bytes. Self.Src.left src ≡ Some bytes)) }
         ensures unfailed { IfOk result (λ src. Self.Src.faults src ≡ 0) }
+        ensures told { IfSome (opens self.old (option_copied path.entry)) (λ can. is_ok result ≡ can) }
         ensures others { (other : Option (List ℕ)) → other ≢ option_copied path.entry →
             named self.new other ≡ named self.old other }
         ensures cause { HasCause (faults self.old) (faults self.new) result };

@@ -37,6 +37,8 @@ impl Outside for Standard {
 
     ghost named = { λ _ _. None };
 
+    ghost opens = { λ _ _. None };
+
     ghost faults = { λ s. s };
 
     /// Scripts in files aren't built: a path fails.

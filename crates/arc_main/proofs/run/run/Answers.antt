@@ -6,8 +6,5 @@ pub returns-clause-usage : goal.returns-clause-usage
 returns-clause-usage g c =
     (λ two. absurd (no_status_2 _ c.drill-status.ensures.status two), λ other. absurd (other (c.is_drill.ensures.0 (search rules))))
 
-pub returns-clause-told : goal.returns-clause-told
-returns-clause-told g c two = absurd (no_status_2 _ c.drill-status.ensures.status two)
-
 pub returns-clause-no_task : goal.returns-clause-no_task
 returns-clause-no_task g c two = absurd (no_status_2 _ c.drill-status.ensures.status two)
