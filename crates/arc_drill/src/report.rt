@@ -8,8 +8,7 @@ ghost use Rattle.arc_plain.specs.State.{Plain};
 ghost use Rattle.arc_script.specs.Steps.{IsValidStep};
 ghost use Rattle.arc_state.specs.State.{StandsFor};
 
-use crate::Status;
-use crate::lines;
+use crate::{Status, lines};
 use arc_bytes::{Failed, Memory, Sink, write_all};
 use arc_command::{Command, CommandId};
 use arc_script::Step;
@@ -47,14 +46,28 @@ fn do_step(alloc: Global, state: &mut State, step: &Step) -> Result<Vec<u8>, Mem
     ensures { IfOk result (λ line. (plain : Plain) → StandsFor state.old plain →
         (line.items ≡ line_of plain step.now) × StandsFor state.new (state_after plain step.now)) }
 {
-    let Step::Call { node, at_ms, token, op } = step;
+    let Step::Call {
+        node,
+        at_ms,
+        token,
+        op,
+    } = step;
     let slot = state.count();
     if slot >= MAX_SLOTS {
         return lines::of_full_list(alloc, MAX_SLOTS);
     }
-    let id = CommandId { node: *node, inc: 1, n: slot as u32 };
+    let id = CommandId {
+        node: *node,
+        inc: 1,
+        n: slot as u32,
+    };
     let op = op.copy(alloc)?;
-    let command = Command { id, at_ms: *at_ms, token: *token, op };
+    let command = Command {
+        id,
+        at_ms: *at_ms,
+        token: *token,
+        op,
+    };
     let reply = state.apply(alloc, &command)?;
     lines::of_slot(alloc, slot, &reply)
 }

@@ -1,7 +1,8 @@
 //! The task that the program's words name.
-ghost use Rattle.std.specs.Prelude.{◌≡◌, ◌≢◌, ◌↔◌, IfSome, IsTrue, None};
+ghost use Rattle.std.specs.Prelude.{◌≡◌, ◌≢◌, ◌↔◌, ℕ, List, Option, IfSome, IsTrue, None};
 ghost use Rattle.arc_bytes.specs.Counts.{HasRisen};
 ghost use Rattle.arc_drill.specs.Drilled.{Drilled};
+ghost use Rattle.arc_drill.specs.Status.{IsStatus};
 ghost use Rattle.arc_main.specs.Words.{IsDrill, TellsUsage};
 ghost use Rattle.arc_script.specs.Grammar.{steps_of};
 
@@ -24,9 +25,14 @@ pub fn run<E: Outside, K: Sink, N: Sink>(
     // The drill's theorem, over the bytes that the outside tells.
     ensures drilled { IsDrill words.now → IfSome (E.named outside.old None) (λ text.
         Drilled (K.taken out.old) (K.taken out.new) result (steps_of text)) }
+    // One of the drill's statuses, also where the outside tells nothing.
+    ensures status { IsDrill words.now → IsStatus result }
     ensures source_failed { result ≡ 3 → HasRisen (E.faults outside.old) (E.faults outside.new) }
     ensures sink_failed { result ≡ 4 → HasRisen (K.faults out.old) (K.faults out.new) }
     ensures untouched { result ≡ 3 → out.new ≡ out.old }
+    // No script but that of standard input is opened.
+    ensures others { (path : Option (List ℕ)) → path ≢ None →
+        E.named outside.new path ≡ E.named outside.old path }
     // Other words are no task.
     ensures usage { (result ≡ 2) ↔ (IsDrill words.now → ⊥) }
     ensures told { result ≡ 2 → TellsUsage (N.taken notes.old) (N.taken notes.new)

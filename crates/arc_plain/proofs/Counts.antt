@@ -6,7 +6,7 @@ use Rattle.arc_plain.specs.Cluster.{fold_of, next}
 use Rattle.arc_plain.proofs.Steps.{next_cases}
 
 -- each command counts once
-count-next : (plain : Plain) (c : Command) → (next plain c).count ≡ plain.count + 1
+pub count-next : (plain : Plain) (c : Command) → (next plain c).count ≡ plain.count + 1
 count-next plain c =
     next_cases (λ p. p.count ≡ plain.count + 1) plain c refl (λ name panel room free. refl) (λ entries. refl)
 
