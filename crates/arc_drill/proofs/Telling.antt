@@ -7,11 +7,11 @@ use Rattle.std.proofs.lemmas.Option.{none-some, same_Some, slice_get_within}
 use Rattle.arc_command.specs.declared.command.Command.{Command}
 use Rattle.arc_plain.specs.State.{Plain, fresh}
 use Rattle.arc_plain.specs.Cluster.{answer, next, fold_of}
+use Rattle.arc_plain.proofs.Counts.{count-next}
 use Rattle.arc_script.specs.declared.step.Step.{Step}
 use Rattle.arc_drill.specs.Lines.{slot_line, full_line}
 use Rattle.arc_drill.specs.Report.{max_slots, command_at, commands_from, list_of, Tells}
 use Rattle.arc_drill.specs.Steps.{line_of, state_after, lines_from}
-use Rattle.arc_drill.proofs.Counting.{next_counts}
 
 -- an element of a front of a list
 slice_get-take : {A : Type 0} → (n i : ℕ) (xs : List A) → i < n → slice_get (take n xs) i ≡ slice_get xs i
@@ -63,7 +63,7 @@ slot_lines (step ∷ steps) plain zero c room is =
     ap Some (line ∙ (ap (λ d. slot_line plain.count (answer plain d)) (same_Some _ _ is) ∙ ap (λ n. slot_line n (answer plain c)) (sym place)))
 slot_lines (step ∷ steps) plain (suc k) c room is =
     let command = command_at plain.count step in
-    let later : TellsSlot steps (next plain command) (plain.count + 1) k c = subst (λ m. TellsSlot steps (next plain command) m k c) (next_counts plain command) (slot_lines steps (next plain command) k c) in
+    let later : TellsSlot steps (next plain command) (plain.count + 1) k c = subst (λ m. TellsSlot steps (next plain command) m k c) (count-next plain command) (slot_lines steps (next plain command) k c) in
     let place : plain.count + 1 + k ≡ plain.count + suc k = omega arith in
     let state = state_where_room plain step (omega arith) in
     ap (λ p. slice_get (lines_from p steps) k) state ∙ (later (omega arith) is
@@ -76,7 +76,7 @@ full_lines (step ∷ steps) plain zero few beyond within = ap Some (line_where_f
 full_lines (step ∷ steps) plain (suc k) few beyond within =
     ⊎_elim
     (λ room. let command = command_at plain.count step in
-      let counts = next_counts plain command in
+      let counts = count-next plain command in
       ap (λ p. slice_get (lines_from p steps) k) (state_where_room plain step room) ∙ full_lines steps (next plain command) k (omega arith) (omega arith) (omega arith))
     (λ full. ap (λ p. slice_get (lines_from p steps) k) (state_where_full plain step full) ∙ full_lines steps plain k few (omega arith) (omega arith))
     (cases_lt plain.count max_slots)

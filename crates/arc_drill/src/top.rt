@@ -1,17 +1,16 @@
 //! The drill itself.
-use crate::Status;
-use crate::lines;
-use crate::report::report;
-use arc_bytes::{Failed, ReadEnd, Sink, Source, read_all, write_all};
-use arc_script::{MAX_SCRIPT, ScriptCode, ScriptEnd, read_script};
-use std::alloc::Global;
-
 ghost use Rattle.std.specs.Prelude.{◌≡◌, ◌≢◌, IfSome, Err};
 ghost use Rattle.arc_bytes.specs.Counts.{HasRisen};
 ghost use Rattle.arc_bytes.specs.Source.{AtEnd};
 ghost use Rattle.arc_drill.specs.Drilled.{Drilled, Wrote};
 ghost use Rattle.arc_drill.specs.Status.{IsStatus};
 ghost use Rattle.arc_script.specs.Grammar.{steps_of};
+
+use crate::report::report;
+use crate::{Status, lines};
+use arc_bytes::{Failed, ReadEnd, Sink, Source, read_all, write_all};
+use arc_script::{MAX_SCRIPT, ScriptCode, ScriptEnd, read_script};
+use std::alloc::Global;
 
 /// Reads a script from `src`, does its steps in order, writes the line of each to `out` when it is done, and answers
 /// the status: 0 where all of that was done, 3 and 4 where the source or the sink failed, 5 for want of memory, and 6

@@ -9,7 +9,6 @@ mod memory_outside;
 mod outside;
 mod run;
 mod standard;
-
 #[cfg(test)]
 mod tests;
 
