@@ -76,8 +76,8 @@ full_lines (step ∷ steps) plain zero few beyond within = ap Some (line_where_f
 full_lines (step ∷ steps) plain (suc k) few beyond within =
     ⊎_elim
     (λ room. let command = command_at plain.count step in
-      let counts = count-next plain command in
-      ap (λ p. slice_get (lines_from p steps) k) (state_where_room plain step room) ∙ full_lines steps (next plain command) k (omega arith) (omega arith) (omega arith))
+    let counts = count-next plain command in
+    ap (λ p. slice_get (lines_from p steps) k) (state_where_room plain step room) ∙ full_lines steps (next plain command) k (omega arith) (omega arith) (omega arith))
     (λ full. ap (λ p. slice_get (lines_from p steps) k) (state_where_full plain step full) ∙ full_lines steps plain k few (omega arith) (omega arith))
     (cases_lt plain.count max_slots)
 
@@ -101,9 +101,9 @@ pub tells : (steps : List Step) → Tells steps (lines_from fresh steps)
 tells steps = record {
   one_each = length-lines_from steps fresh;
   slots = λ s c is.
-    let in_list = listed steps s c is in
-    let below = in_list.0 in
-    let line : slice_get (lines_from fresh steps) s ≡ Some (slot_line s (answer (fold_of (take s (commands_from 0 steps))) c)) = ap_place steps s c (slot_lines steps fresh s c (omega arith) in_list.1) in
-    rw (take-take s max_slots (commands_from 0 steps) (omega arith)) line;
+      let in_list = listed steps s c is in
+      let below = in_list.0 in
+      let line : slice_get (lines_from fresh steps) s ≡ Some (slot_line s (answer (fold_of (take s (commands_from 0 steps))) c)) = ap_place steps s c (slot_lines steps fresh s c (omega arith) in_list.1) in
+      rw (take-take s max_slots (commands_from 0 steps) (omega arith)) line;
   full = λ s beyond within. full_lines steps fresh s (omega arith) (omega arith) within;
 }

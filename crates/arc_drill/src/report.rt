@@ -9,8 +9,7 @@ ghost use Rattle.arc_plain.specs.State.{Plain};
 ghost use Rattle.arc_script.specs.Steps.{IsValidStep};
 ghost use Rattle.arc_state.specs.State.{StandsFor};
 
-use crate::Status;
-use crate::lines;
+use crate::{Status, lines};
 use arc_bytes::{Failed, Memory, Sink, write_all};
 use arc_command::{Command, CommandId};
 use arc_script::Step;

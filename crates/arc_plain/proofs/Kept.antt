@@ -36,16 +36,17 @@ IsDrawn plain = AreDrawn plain.controls plain.controls_drawn × (plain.controls_
 drawn_next : (plain : Plain) (c : Command) → IsDrawn plain → IsDrawn (next plain c)
 drawn_next plain c before =
     next_cases IsDrawn plain c
-        (before.0, omega (arith, before.1))
-        (λ name panel room free.
-            ( drawn_after_new plain.controls plain.controls_drawn _ before.0 refl
-            , omega (arith, before.1) ))
-        (λ entries. (drawn_after_sets entries plain.controls plain.controls_drawn before.0, omega (arith, before.1)))
+    (before.0, omega (arith, before.1))
+    (λ name panel room free. (
+      drawn_after_new plain.controls plain.controls_drawn _ before.0 refl,
+      omega (arith, before.1),
+    ))
+    (λ entries. (drawn_after_sets entries plain.controls plain.controls_drawn before.0, omega (arith, before.1)))
 
 pub drawn_fold : (commands : List Command) → IsDrawn (fold_of commands)
 drawn_fold commands =
     fold_keeps IsDrawn drawn_next fresh commands
-        (record { ascending = λ i j d earlier within. absurd (omega arith); drawn_before = λ k d within. absurd (omega arith) }, omega arith)
+    (record { ascending = λ i j d earlier within. absurd (omega arith); drawn_before = λ k d within. absurd (omega arith) }, omega arith)
 
 -- ---- names
 
@@ -74,20 +75,20 @@ free_is_apart plain name panel k d free within same_panel same_name =
     let x = get_or plain.controls k d in
     let fails = unfound (λ c. (c.panel.0 == panel.0) && bytes_eq c.name name) plain.controls free k d within in
     not_from_Decides ((x.panel.0 == panel.0) && bytes_eq x.name name)
-        (Decides-and (x.panel.0 == panel.0) (bytes_eq x.name name)
-            (Decides-eqb x.panel.0 panel.0) (bytes_eq-Decides x.name name))
-        fails (same_panel, same_name)
+    (Decides-and (x.panel.0 == panel.0) (bytes_eq x.name name)
+    (Decides-eqb x.panel.0 panel.0) (bytes_eq-Decides x.name name))
+    fails (same_panel, same_name)
 
 apart_next : (plain : Plain) (c : Command) → AreNamedApart plain.controls → AreNamedApart (next plain c).controls
 apart_next plain c before =
     next_cases (λ p. AreNamedApart p.controls) plain c
-        before
-        (λ name panel room free. all_pairs_push IsApart plain.controls _ before
-            (λ k d within. free_is_apart plain name panel k d free within))
-        (λ entries. pairs_after_sets IsApart
-            (λ a b a' b' same same' apart panels names.
-                apart (omega (arith, same.panel, same'.panel)) (sym same.name ∙ names ∙ same'.name))
-            entries plain.controls before)
+    before
+    (λ name panel room free. all_pairs_push IsApart plain.controls _ before
+    (λ k d within. free_is_apart plain name panel k d free within))
+    (λ entries. pairs_after_sets IsApart
+    (λ a b a' b' same same' apart panels names.
+    apart (omega (arith, same.panel, same'.panel)) (sym same.name ∙ names ∙ same'.name))
+    entries plain.controls before)
 
 pub apart_fold : (commands : List Command) → AreNamedApart (fold_of commands).controls
 apart_fold commands =
@@ -98,9 +99,9 @@ apart_fold commands =
 within_next : (plain : Plain) (c : Command) → IsWithinLimit plain.controls → IsWithinLimit (next plain c).controls
 within_next plain c before =
     next_cases (λ p. IsWithinLimit p.controls) plain c
-        before
-        (λ name panel room free. omega (arith, length-append {A = ControlItem}))
-        (λ entries. omega (arith, length_after_sets entries plain.controls))
+    before
+    (λ name panel room free. omega (arith, length-append {A = ControlItem}))
+    (λ entries. omega (arith, length_after_sets entries plain.controls))
 
 pub within_fold : (commands : List Command) → IsWithinLimit (fold_of commands).controls
 within_fold commands = fold_keeps (λ p. IsWithinLimit p.controls) within_next fresh commands (omega arith)

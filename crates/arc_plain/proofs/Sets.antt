@@ -35,14 +35,14 @@ pub pairs_after_sets : (R : ControlItem → ControlItem → Type 0) →
 pairs_after_sets R keeps entries xs before i j d earlier within =
     let within' : j < length xs = omega (arith, length_after_sets entries xs) in
     keeps (get_or xs i d) (get_or xs j d) (get_or (with_set entries xs) i d) (get_or (with_set entries xs) j d)
-        (set_at entries xs i d (omega arith)) (set_at entries xs j d within') (before i j d earlier within')
+    (set_at entries xs i d (omega arith)) (set_at entries xs j d within') (before i j d earlier within')
 
 -- changes leave the identifiers in order
 pub ascending_after_sets : (entries : List Entry) (xs : List ControlItem) →
     AreAscending xs → AreAscending (with_set entries xs)
 ascending_after_sets =
     pairs_after_sets (λ earlier later. earlier.control.0 < later.control.0)
-        (λ a b a' b' same same' below. omega (arith, same.control, same'.control))
+    (λ a b a' b' same same' below. omega (arith, same.control, same'.control))
 
 -- and they are those that were drawn
 pub drawn_after_sets : (entries : List Entry) (xs : List ControlItem) (drawn : ℕ) →

@@ -7,8 +7,8 @@ ghost use Rattle.arc_script.specs.Steps.{IsValidStep};
 ghost use Rattle.arc_command.specs.Valid.{IsValid};
 ghost use Rattle.arc_command.specs.declared.command.Op.{Op};
 
-use crate::words::{read_endpoint, read_long, read_name, read_number, read_state};
 use crate::step::Head;
+use crate::words::{read_endpoint, read_long, read_name, read_number, read_state};
 use crate::{LineEnd, ScriptCode, Step};
 use arc_command::{Batch, ControlId, Entry, List, MAX_MS, Op, PanelId, Text};
 use std::alloc::{AllocError, Global};
