@@ -18,7 +18,7 @@ const ONLY_PANEL: PanelId = PanelId(1);
 /// The most controls that are kept.
 const MOST_CONTROLS: usize = 256;
 
-/// HasEffect an operation. After want of memory nothing has changed.
+/// Does an operation. After want of memory nothing has changed.
 pub(crate) fn perform(
     alloc: Global,
     controls: &mut Vec<ControlItem>,
