@@ -1,12 +1,11 @@
 -- Which words are the task `drill`.
-use Rattle.std.proofs.Common.{◌≡◌, ◌≢◌, ℕ, ◌+◌, ◌<◌, ◌≤◌, ◌↔◌, refl, sym, ap, ◌∙◌, subst, Bool, true, List, [], ◌∷◌, length, get_or, map, IsTrue, arith}
+use Rattle.std.proofs.Common.{◌≡◌, ◌≢◌, ℕ, ◌<◌, ◌≤◌, ◌↔◌, sym, ap, ◌∙◌, Bool, List, [], ◌∷◌, length, get_or, IsTrue, arith}
 use Rattle.std.specs.Prelude.{codes, nat_eq, String, string_bytes}
 use Rattle.std.specs.Global.{Global}
 use Rattle.std.specs.Cmp.Lexicographic.{pointwise}
 use Rattle.std.proofs.lemmas.Slice.Eq.{bytes_eq-Decides}
-use Rattle.arc_drill.specs.declared.status.Status.{Status}
 use Rattle.arc_drill.specs.declared.status.Status.TheVariants.{Done, SourceFailed, SinkFailed, Memory, BadScript}
-use Rattle.arc_drill.specs.Status.{exit_status, IsStatus}
+use Rattle.arc_drill.specs.Status.{IsStatus}
 use Rattle.arc_main.specs.Words.{IsDrill}
 
 -- lists of one text that are equal
