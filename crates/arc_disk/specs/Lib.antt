@@ -1,2 +1,4 @@
 pub mod Disk
 pub mod Calls
+pub mod Past
+pub mod Laws

@@ -2,5 +2,6 @@
 #![tactic(auto)]
 
 mod disk;
+mod past;
 
 pub use disk::{Disk, Rig, WriteEnd};
