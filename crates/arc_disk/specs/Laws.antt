@@ -6,7 +6,7 @@ use Rattle.std.proofs.lemmas.List.{take_at, drop_at, length-take-le}
 use Rattle.arc_disk.specs.Disk.{Torn, written}
 use Rattle.arc_disk.specs.Past.{Event, Past, Standing, at_rest, after, after_all, standing, IsTorn, MayLeave, time_of, HadLeft, LeftSince}
 use Rattle.arc_disk.specs.Past.Event.{Write, Sync, Crash}
-use Rattle.arc_disk.specs.declared.past.Range.{Range}
+use Rattle.arc_disk.specs.declared.range.Range.{Range}
 
 -- what a write makes is torn in its range
 pub written_is_torn : (old : List ℕ) (at : ℕ) (bytes : List ℕ) → at ≤ length old → Torn at (length bytes) old (written old at bytes)

@@ -2,3 +2,5 @@ pub mod Disk
 pub mod Calls
 pub mod Past
 pub mod Laws
+pub mod History
+pub mod Schedule

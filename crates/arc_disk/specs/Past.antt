@@ -1,7 +1,7 @@
 -- What happened to a disk in memory, and what follows from it: what a read gives, and what a crash may leave.
 use Rattle.std.specs.Prelude.{ℕ, ◌≡◌, ◌⊎◌, ◌<◌, zero, suc, nat_le, if◌then◌else◌, List, [], ◌∷◌, ◌++◌, length}
 use Rattle.arc_disk.specs.Disk.{Torn, written}
-use Rattle.arc_disk.specs.declared.past.Range.{Range}
+use Rattle.arc_disk.specs.declared.range.Range.{Range}
 
 -- What changed the disk, with what the clock said afterwards: a write, a sync of what waited, or a crash with the byte
 -- that it left in what waited.

@@ -2,6 +2,9 @@
 #![tactic(auto)]
 
 mod disk;
-mod past;
+mod event;
+mod history;
+mod range;
+mod schedule;
 
 pub use disk::{Disk, Rig, WriteEnd};
