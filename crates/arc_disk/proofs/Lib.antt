@@ -1,3 +1,5 @@
 pub mod Moments
 pub mod Events
 pub mod Filled
+pub mod Elapsing
+pub mod Calling

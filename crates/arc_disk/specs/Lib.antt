@@ -4,3 +4,4 @@ pub mod Past
 pub mod Laws
 pub mod History
 pub mod Schedule
+pub mod MemoryDisk

@@ -1,5 +1,6 @@
 //! The bytes of a disk in memory, and what happened to them.
 ghost use Rattle.std.specs.Prelude.{◌≡◌, ◌+◌, ◌<◌, ◌≤◌, [], ◌∷◌, ◌++◌, length, map, vec_len, vec_capacity, IfOk, OnErr, OnOk};
+ghost use Rattle.arc_bytes.specs.Counts.{next_count};
 ghost use Rattle.arc_disk.specs.Disk.{written};
 ghost use Rattle.arc_disk.specs.Past.{all_filled, filled, standing};
 ghost use Rattle.arc_disk.specs.Past.Event.{Write as wrote};
@@ -80,6 +81,7 @@ impl History {
     pub(crate) fn tick(&mut self)
         ensures ticked { self.new ≡ ticked self.old }
         ensures in_time { IsInTime self.old.clock self.old.events }
+        ensures later { self.old.clock ≤ next_count self.old.clock }
     {
         self.clock = self.clock.saturating_add(1);
     }

@@ -4,7 +4,9 @@
 mod disk;
 mod event;
 mod history;
+mod memory_disk;
 mod range;
 mod schedule;
 
 pub use disk::{Disk, Rig, WriteEnd};
+pub use memory_disk::MemoryDisk;

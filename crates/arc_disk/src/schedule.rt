@@ -1,5 +1,6 @@
 //! Which device calls of a disk in memory fail.
-ghost use Rattle.std.specs.Prelude.{◌≡◌};
+ghost use Rattle.std.specs.Prelude.{◌≡◌, ◌≤◌};
+ghost use Rattle.arc_bytes.specs.Counts.{next_count};
 ghost use Rattle.arc_disk.specs.Schedule.{after_stop, after_turn, due, fill_of, nearer};
 
 /// The stop that is set.
@@ -37,11 +38,13 @@ impl Schedule {
     pub(crate) fn turn(&mut self, call: u64) -> Turn
         ensures turn { result ≡ due self.old call }
         ensures after { self.new ≡ after_turn self.old result }
+        ensures later { self.old.faults ≤ next_count self.old.faults }
     {
         let turn = self.due(call);
         self.arming = nearer(self.arming);
+        let faults = self.faults.saturating_add(1);
         if turn == Turn::Fails {
-            self.faults = self.faults.saturating_add(1);
+            self.faults = faults;
         }
         turn
     }
