@@ -3,3 +3,5 @@ pub mod Events
 pub mod Filled
 pub mod Elapsing
 pub mod Calling
+pub mod Writing
+pub mod Settling

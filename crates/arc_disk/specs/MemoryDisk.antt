@@ -62,3 +62,10 @@ stopped_at Stops d = record { history = d.history; schedule = after_stop d.sched
 -- After a device call that changes no byte.
 abbrev pub after_idle : MemoryDisk → MemoryDisk
 after_idle d = stopped_at (next_turn d) (begun d)
+
+-- No device call was made yet, no stop is set, and the calls with these numbers are to fail.
+pub record IsUnused (d : MemoryDisk) (failing : List ℕ) : Type 0 where
+  pub clock : moment_of d ≡ 0
+  pub count : faults_of d ≡ 0
+  pub arming : d.schedule.arming ≡ Unarmed
+  pub chosen : d.schedule.failing.items ≡ failing

@@ -123,7 +123,8 @@ impl History {
 
     /// What waits is lost, and `fill` stands in its place.
     pub(crate) fn crash(&mut self, fill: u8)
-        ensures { self.new ≡ crashed fill self.old }
+        ensures crashed { self.new ≡ crashed fill self.old }
+        ensures in_time { IsInTime self.old.clock self.old.events }
     {
         if self.waiting.is_empty() {
             return;

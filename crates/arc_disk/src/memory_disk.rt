@@ -1,15 +1,16 @@
 //! A disk in memory, whose failures are chosen.
-ghost use Rattle.std.specs.Prelude.{◌≡◌, ◌≤◌, Some, is_err, IsErr, length};
+ghost use Rattle.std.specs.Prelude.{◌≡◌, ◌≤◌, [], Some, is_err, IfOk, IsErr, length};
+ghost use Rattle.std.proofs.Common.{inl};
 ghost use Rattle.arc_bytes.specs.Counts.{next_count};
 ghost use Rattle.arc_disk.specs.Calls.{IsCall};
-ghost use Rattle.arc_disk.specs.Disk.{Elapses, Keeps};
-ghost use Rattle.arc_disk.specs.History.{IsInTime};
-ghost use Rattle.arc_disk.specs.MemoryDisk.{NoneFails, after_idle, begun, content_of, disk_stops_in, faults_of, is_failure, left_since_of, may_leave_of, moment_of, next_turn};
+ghost use Rattle.arc_disk.specs.Disk.{Elapses, Keeps, Only};
+ghost use Rattle.arc_disk.specs.History.{IsInTime, ticked};
+ghost use Rattle.arc_disk.specs.MemoryDisk.{IsUnused, NoneFails, after_idle, begun, content_of, disk_stops_in, faults_of, is_failure, left_since_of, may_leave_of, moment_of, next_turn};
 ghost use Rattle.arc_disk.specs.Laws.{only_now_in_memory, reads_as_left_in_memory, since_earlier_in_memory};
 
 use crate::history::History;
 use crate::schedule::{Arming, Schedule, Turn};
-use crate::{Disk, WriteEnd};
+use crate::{Disk, Rig, WriteEnd};
 use arc_bytes::{Failed, Memory};
 use std::alloc::Global;
 
@@ -24,6 +25,41 @@ pub struct MemoryDisk {
 }
 
 impl MemoryDisk {
+    /// An empty disk. The device calls with these numbers, counted from 0, fail.
+    pub fn new(alloc: Global, failing: Vec<u64>) -> MemoryDisk
+        ensures content { content_of result ≡ [] }
+        ensures durable { Only (content_of result) (may_leave_of result) }
+        ensures unused { IsUnused result failing.items }
+    {
+        MemoryDisk {
+            history: History::new(alloc),
+            schedule: Schedule::new(failing),
+        }
+    }
+
+    /// A disk on which these bytes are, all of them synced. The device calls with these numbers, counted from 0, fail.
+    pub fn from_bytes(
+        alloc: Global,
+        bytes: Vec<u8>,
+        failing: Vec<u64>,
+    ) -> Result<MemoryDisk, Memory>
+        ensures content { IfOk result (λ d. content_of d ≡ bytes.items) }
+        ensures durable { IfOk result (λ d. Only (content_of d) (may_leave_of d)) }
+        ensures unused { IfOk result (λ d. IsUnused d failing.items) }
+    {
+        Ok(MemoryDisk {
+            history: History::from_bytes(alloc, bytes)?,
+            schedule: Schedule::new(failing),
+        })
+    }
+
+    /// What a read gives. This is no device call.
+    pub fn bytes(&self) -> &[u8]
+        ensures { result.now ≡ content_of self.now }
+    {
+        self.history.content()
+    }
+
     /// A device call begins: the clock moves on, and a call that was chosen to fail is counted.
     fn turn(&mut self) -> Turn
         ensures turn { result ≡ next_turn self.old }
@@ -41,6 +77,9 @@ impl MemoryDisk {
     fn begin(&mut self) -> Result<(), Failed>
         ensures answer { is_err result ≡ is_failure (next_turn self.old) }
         ensures after { self.new ≡ after_idle self.old }
+        ensures ticked { self.new.history ≡ ticked self.old.history }
+        ensures in_time { IsInTime self.old.history.clock self.old.history.events }
+        ensures clock_later { moment_of self.old ≤ next_count (moment_of self.old) }
         ensures kept { Keeps content_of may_leave_of self.old self.new }
         ensures time { Elapses moment_of may_leave_of left_since_of self.old self.new }
         ensures call { IsCall moment_of faults_of disk_stops_in NoneFails self.old self.new (is_err result) }
@@ -54,5 +93,89 @@ impl MemoryDisk {
             }
             Turn::Fails => Err(Failed),
         }
+    }
+}
+
+impl Disk for MemoryDisk {
+    ghost tells = { Unit {0} };
+
+    ghost content = { content_of };
+
+    ghost may_leave = { may_leave_of };
+
+    ghost left_since = { left_since_of };
+
+    ghost moment = { moment_of };
+
+    ghost faults = { faults_of };
+
+    ghost stops_in = { disk_stops_in };
+
+    ghost is_tame = { NoneFails };
+
+    ghost reads_as_left = { λ d told. reads_as_left_in_memory d.history };
+
+    ghost counts_now = { λ d t image told le now. inl now };
+
+    ghost only_now = { λ d image told left. only_now_in_memory d.history image left };
+
+    ghost since_earlier = { λ d t u image told le left. since_earlier_in_memory d.history t u image le left };
+
+    fn len(&mut self) -> Result<u64, Failed> {
+        match self.begin() {
+            Ok(()) => Ok(self.history.content().len() as u64),
+            Err(Failed) => Err(Failed),
+        }
+    }
+
+    fn read_at(&mut self, at: u64, buf: &mut [u8]) -> Result<(), Failed> {
+        match self.begin() {
+            Ok(()) => {
+                let from = &self.history.content()[at as usize..];
+                buf.copy_from_slice(&from[..buf.len()]);
+                Ok(())
+            }
+            Err(Failed) => Err(Failed),
+        }
+    }
+
+    fn write_at(&mut self, at: u64, bytes: &[u8]) -> Result<(), WriteEnd> {
+        let turn = self.turn();
+        if turn == Turn::Fails {
+            return Err(WriteEnd::Failed);
+        }
+        let Ok(()) = self.history.write(at as usize, bytes) else {
+            return Err(WriteEnd::Memory);
+        };
+        if turn == Turn::Stops {
+            self.schedule.stop();
+            return Err(WriteEnd::Failed);
+        }
+        Ok(())
+    }
+
+    fn sync(&mut self) -> Result<(), Failed> {
+        match self.begin() {
+            Ok(()) => {
+                self.history.sync();
+                Ok(())
+            }
+            Err(Failed) => Err(Failed),
+        }
+    }
+
+    fn faults(&self) -> u64 {
+        self.schedule.faults
+    }
+}
+
+impl Rig for MemoryDisk {
+    fn arm(&mut self, calls: u32, fill: u8) {
+        self.schedule.arming = Arming::Armed { calls, fill };
+    }
+
+    fn crash(&mut self) {
+        self.history.crash(self.schedule.fill());
+        self.schedule.arming = Arming::Unarmed;
     }
 }

@@ -1,6 +1,7 @@
 //! Which device calls of a disk in memory fail.
 ghost use Rattle.std.specs.Prelude.{◌≡◌, ◌≤◌};
 ghost use Rattle.arc_bytes.specs.Counts.{next_count};
+ghost use Rattle.arc_disk.specs.declared.schedule.Arming.TheVariants.{Unarmed};
 ghost use Rattle.arc_disk.specs.Schedule.{after_stop, after_turn, due, fill_of, nearer};
 
 /// The stop that is set.
@@ -34,6 +35,19 @@ pub(crate) struct Schedule {
 }
 
 impl Schedule {
+    /// The device calls with these numbers fail, and no stop is set.
+    pub(crate) fn new(failing: Vec<u64>) -> Schedule
+        ensures failing { result.failing ≡ failing }
+        ensures arming { result.arming ≡ Unarmed }
+        ensures faults { result.faults ≡ 0 }
+    {
+        Schedule {
+            failing,
+            arming: Arming::Unarmed,
+            faults: 0,
+        }
+    }
+
     /// What becomes of the device call with this number, which comes now. One that fails is counted.
     pub(crate) fn turn(&mut self, call: u64) -> Turn
         ensures turn { result ≡ due self.old call }
