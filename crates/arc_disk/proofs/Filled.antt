@@ -116,11 +116,11 @@ may_fill_after : (fill : ℕ) (s : Standing) (event : Event) → MayFill fill s 
 may_fill_after fill s (Write time at bytes) may =
     in_both_cases (MayFill fill) (nat_le at (length s.content)) _ s
     (λ within.
-        let le : at ≤ length s.content = grind (arith, nat_tests) in
-        let r : Range = record { at = at; len = length bytes } in
-        let torn = torn_all_filled at (length bytes) fill s.waiting s.content (written s.content at bytes) (written_is_torn s.content at bytes le) in
-        subst (IsTorn (s.waiting ++ r ∷ []) s.settled) (sym (all_filled_more fill s.waiting r (written s.content at bytes)))
-        (torn_more s.waiting r s.settled (all_filled fill s.waiting s.content) _ may (torn_filled_itself at (length bytes) fill _ _ torn)))
+    let le : at ≤ length s.content = grind (arith, nat_tests) in
+    let r : Range = record { at = at; len = length bytes } in
+    let torn = torn_all_filled at (length bytes) fill s.waiting s.content (written s.content at bytes) (written_is_torn s.content at bytes le) in
+    subst (IsTorn (s.waiting ++ r ∷ []) s.settled) (sym (all_filled_more fill s.waiting r (written s.content at bytes)))
+    (torn_more s.waiting r s.settled (all_filled fill s.waiting s.content) _ may (torn_filled_itself at (length bytes) fill _ _ torn)))
     (λ past. may)
 may_fill_after fill s (Sync time) may = refl
 may_fill_after fill s (Crash time f) may = refl

@@ -41,7 +41,7 @@ module _ (old : Past) (in_time : IsInTime old.clock old.events) where
       in_both_states (IsSettledAt (standing old).content old) (standing old).waiting (ticked old) (grown (ticked old) (Sync (next_count old.clock)))
       (λ none. record { reads = refl; only = none_waits old none; time = elapses_idle old in_time (next_count old.clock) later })
       (settled_so (standing old).content old (grown (ticked old) (Sync (next_count old.clock))) (after_all_more (at_rest old.first) old.events (Sync (next_count old.clock)))
-        (elapses_event old in_time (next_count old.clock) later (Sync (next_count old.clock)) refl))
+      (elapses_event old in_time (next_count old.clock) later (Sync (next_count old.clock)) refl))
 
   -- after a crash the disk reads as something that the crash might have left
   pub crash_settles : (fill : ℕ) → (content : List ℕ) × MayLeave (standing old) content × IsSettledAt content old (crashed fill old)
@@ -52,5 +52,5 @@ module _ (old : Past) (in_time : IsInTime old.clock old.events) where
         content,
         may_fill fill old,
         settled_so content old (grown old (Crash old.clock fill)) (after_all_more (at_rest old.first) old.events (Crash old.clock fill))
-        (elapses_event old in_time old.clock (omega arith) (Crash old.clock fill) refl),
+            (elapses_event old in_time old.clock (omega arith) (Crash old.clock fill) refl),
       ))
