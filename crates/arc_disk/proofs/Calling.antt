@@ -1,12 +1,12 @@
 -- The clock, the count and the stop of a disk in memory go on from one device call to the next.
-use Rattle.std.proofs.Common.{◌≡◌, ◌≤◌, ◌==◌, ℕ, zero, suc, Bool, true, false, IsTrue, Some, List, [], refl, sym, ◌∙◌, ap, subst, arith}
+use Rattle.std.proofs.Common.{◌≡◌, ◌≤◌, ◌==◌, ℕ, zero, suc, Bool, true, false, IsTrue, Some, List, [], refl, sym, ap, subst, arith}
 use Rattle.std.specs.List.{list_any}
 use Rattle.arc_bytes.specs.Counts.{next_count}
 use Rattle.arc_disk.specs.Calls.{Counted, IsCall, sooner}
 use Rattle.arc_disk.specs.Disk.{Elapses}
-use Rattle.arc_disk.specs.MemoryDisk.{NoneFails, disk_stops_in, faults_of, is_failure, left_since_of, may_leave_of, moment_of, next_turn}
+use Rattle.arc_disk.specs.MemoryDisk.{NoneFails, disk_stops_in, faults_of, is_failure, left_since_of, may_leave_of, moment_of}
 use Rattle.arc_disk.specs.Past.{Past}
-use Rattle.arc_disk.specs.Schedule.{stops_in_of, nearer, due_by, due, counted, after_turn, after_stop}
+use Rattle.arc_disk.specs.Schedule.{stops_in_of, nearer, due_by, due, after_turn, after_stop}
 use Rattle.arc_disk.specs.declared.memory_disk.MemoryDisk.{MemoryDisk}
 use Rattle.arc_disk.specs.declared.schedule.Arming.{Arming}
 use Rattle.arc_disk.specs.declared.schedule.Arming.TheVariants.{Unarmed, Armed, Stopped}

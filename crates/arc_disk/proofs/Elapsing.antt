@@ -1,5 +1,5 @@
 -- Time goes on over a disk in memory.
-use Rattle.std.proofs.Common.{◌≡◌, ◌⊎◌, ◌<◌, ◌≤◌, inl, inr, ⊎_elim, ℕ, List, [], ◌∷◌, ◌++◌, refl, sym, subst, arith}
+use Rattle.std.proofs.Common.{◌≡◌, ◌⊎◌, ◌<◌, ◌≤◌, inl, inr, ⊎_elim, ℕ, List, [], ◌∷◌, ◌++◌, arith}
 use Rattle.arc_disk.specs.Disk.{Elapses}
 use Rattle.arc_disk.specs.Past.{Event, Past, Standing, at_rest, after, after_all, standing, MayLeave, time_of, HadLeft, LeftSince}
 use Rattle.arc_disk.specs.History.{IsInTime}

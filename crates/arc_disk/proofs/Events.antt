@@ -1,10 +1,10 @@
 -- One event more.
-use Rattle.std.proofs.Common.{◌≡◌, ℕ, ◌≤◌, List, [], ◌∷◌, ◌++◌, length, nat_le, true, if◌then◌else◌, refl, sym, ◌∙◌, ap, arith, map}
+use Rattle.std.proofs.Common.{◌≡◌, ℕ, ◌≤◌, List, [], ◌∷◌, ◌++◌, length, if◌then◌else◌, refl, sym, ◌∙◌, ap, arith}
 use Rattle.std.proofs.lemmas.Bool.{le-leb}
 use Rattle.arc_disk.specs.Disk.{written}
-use Rattle.arc_disk.specs.Past.{Event, Past, Standing, at_rest, after, after_all, standing, all_filled, time_of}
+use Rattle.arc_disk.specs.Past.{Event, Standing, at_rest, after, after_all, all_filled, time_of}
 use Rattle.arc_disk.specs.Past.Event.{Write, Sync, Crash}
-use Rattle.arc_disk.specs.History.{IsInTime, grown}
+use Rattle.arc_disk.specs.History.{IsInTime}
 use Rattle.arc_disk.specs.declared.range.Range.{Range}
 
 pub in_time_later : (early late : ℕ) (events : List Event) → early ≤ late → IsInTime early events → IsInTime late events

@@ -1,7 +1,7 @@
 -- What a sync and a crash make of a past.
 use Rattle.std.proofs.Common.{◌≡◌, ◌≤◌, ℕ, List, [], ◌∷◌, refl, sym, ◌∙◌, ap, subst, arith}
 use Rattle.arc_bytes.specs.Counts.{next_count}
-use Rattle.arc_disk.specs.Disk.{Elapses, Only}
+use Rattle.arc_disk.specs.Disk.{Only}
 use Rattle.arc_disk.specs.History.{IsInTime, ticked, grown, synced, crashed, if_waiting}
 use Rattle.arc_disk.specs.Laws.{reads_as_left_in_memory}
 use Rattle.arc_disk.specs.Past.{Past, Standing, at_rest, all_filled, standing, IsTorn, MayLeave}

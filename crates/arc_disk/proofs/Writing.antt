@@ -1,10 +1,10 @@
 -- What a write makes of a past.
-use Rattle.std.proofs.Common.{◌≡◌, ◌≤◌, ◌+◌, ℕ, List, [], ◌∷◌, ◌++◌, length, take, drop, refl, sym, ◌∙◌, ap, subst, arith}
+use Rattle.std.proofs.Common.{◌≡◌, ◌≤◌, ℕ, List, [], ◌∷◌, ◌++◌, length, refl, sym, ◌∙◌, ap, subst}
 use Rattle.arc_bytes.specs.Counts.{next_count}
-use Rattle.arc_disk.specs.Disk.{Elapses, TearsOnly, Torn, written}
+use Rattle.arc_disk.specs.Disk.{TearsOnly, Torn, written}
 use Rattle.arc_disk.specs.History.{IsInTime, ticked, grown}
 use Rattle.arc_disk.specs.Laws.{written_is_torn}
-use Rattle.arc_disk.specs.Past.{Past, Standing, at_rest, after_all, standing, IsTorn, MayLeave}
+use Rattle.arc_disk.specs.Past.{Past, Standing, at_rest, standing, IsTorn, MayLeave}
 use Rattle.arc_disk.specs.Past.Event.{Write}
 use Rattle.arc_disk.specs.declared.range.Range.{Range}
 use Rattle.arc_disk.proofs.Elapsing.{Goes_on, elapses_event}

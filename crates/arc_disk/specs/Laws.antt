@@ -1,10 +1,10 @@
 -- What the laws of a disk in memory rest on.
-use Rattle.std.specs.Prelude.{ℕ, ◌≡◌, ◌⊎◌, ◌<◌, ◌≤◌, ◌+◌, max, nat_le, Bool, true, false, if◌then◌else◌, List, [], ◌∷◌, ◌++◌, length, take, drop, refl}
-use Rattle.std.proofs.Common.{inl, inr, ⊎_elim, arith, sym, ◌∙◌, ap, subst, length-append, length-take, length-drop, append_assoc}
+use Rattle.std.specs.Prelude.{ℕ, ◌≡◌, ◌≤◌, ◌+◌, nat_le, Bool, true, false, if◌then◌else◌, List, [], ◌∷◌, ◌++◌, length, take, drop, refl}
+use Rattle.std.proofs.Common.{inl, inr, arith, ◌∙◌, ap, subst, length-append, length-drop, append_assoc}
 use Rattle.std.proofs.lemmas.Bool.Decides.{nat_tests}
 use Rattle.std.proofs.lemmas.List.{take_at, drop_at, length-take-le}
 use Rattle.arc_disk.specs.Disk.{Torn, written}
-use Rattle.arc_disk.specs.Past.{Event, Past, Standing, at_rest, after, after_all, standing, IsTorn, MayLeave, time_of, HadLeft, LeftSince}
+use Rattle.arc_disk.specs.Past.{Event, Past, Standing, at_rest, after, after_all, standing, IsTorn, MayLeave, HadLeft, LeftSince}
 use Rattle.arc_disk.specs.Past.Event.{Write, Sync, Crash}
 use Rattle.arc_disk.specs.declared.range.Range.{Range}
 

@@ -1,5 +1,5 @@
 -- Which device calls of a disk in memory fail.
-use Rattle.std.specs.Prelude.{ℕ, zero, suc, ◌-◌, ◌==◌, Bool, true, false, Option, None, Some, if◌then◌else◌}
+use Rattle.std.specs.Prelude.{ℕ, zero, suc, ◌-◌, ◌==◌, Bool, Option, None, Some, if◌then◌else◌}
 use Rattle.std.specs.List.{list_any}
 use Rattle.arc_bytes.specs.Counts.{next_count}
 use Rattle.arc_disk.specs.declared.schedule.Arming.{Arming}

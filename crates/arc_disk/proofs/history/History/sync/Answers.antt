@@ -1,5 +1,5 @@
 -- Where a range waited, the sync is one event more.
-use Rattle.std.proofs.Common.{[], List, map, sym, subst, arith}
+use Rattle.std.proofs.Common.{List, map, sym, subst, arith}
 use Rattle.arc_disk.specs.Past.{Event}
 use Rattle.arc_disk.specs.Past.Event.{Sync}
 use Rattle.arc_disk.specs.History.{IsInTime, event_of}

@@ -1,9 +1,7 @@
 -- In each case one device call was made and no byte changed.
-use Rattle.std.proofs.Common.{◌≡◌, ◌∙◌, ap, sym}
+use Rattle.std.proofs.Common.{◌∙◌, ap, sym}
 use Rattle.arc_bytes.specs.Counts.{next_count}
-use Rattle.arc_disk.specs.MemoryDisk.{next_turn}
 use Rattle.arc_disk.specs.Schedule.{after_turn, after_stop}
-use Rattle.arc_disk.specs.declared.schedule.Schedule.{Schedule}
 use Rattle.arc_disk.specs.declared.schedule.Turn.{Turn}
 use Rattle.arc_disk.specs.declared.memory_disk.MemoryDisk.{MemoryDisk}
 use Rattle.arc_disk.proofs.Calling.{called, goes, fails, stops, time_passes}

@@ -1,8 +1,8 @@
 -- The history settles.
-use Rattle.std.proofs.Common.{◌≡◌, ◌∙◌, List, ℕ, ap, sym, subst}
+use Rattle.std.proofs.Common.{◌∙◌, ap, sym, subst}
 use Rattle.arc_disk.specs.History.{synced}
 use Rattle.arc_disk.specs.Laws.{reads_as_left_in_memory}
-use Rattle.arc_disk.specs.Past.{Past, standing, MayLeave}
+use Rattle.arc_disk.specs.Past.{standing, MayLeave}
 use Rattle.arc_disk.proofs.Calling.{time_passes}
 use Rattle.arc_disk.proofs.Settling.{IsSettledAt, sync_settles}
 use Rattle.arc_disk.proofs.memory_disk.MemoryDiskDisk.sync.Goals as goal

@@ -1,5 +1,5 @@
 -- Either no byte changed, or the history has one write more.
-use Rattle.std.proofs.Common.{◌≡◌, ◌∙◌, ap}
+use Rattle.std.proofs.Common.{◌∙◌, ap}
 use Rattle.arc_bytes.specs.Counts.{next_count}
 use Rattle.arc_disk.specs.History.{grown}
 use Rattle.arc_disk.specs.Past.Event.{Write}
