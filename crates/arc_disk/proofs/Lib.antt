@@ -1,0 +1,7 @@
+pub mod Moments
+pub mod Events
+pub mod Filled
+pub mod Elapsing
+pub mod Calling
+pub mod Writing
+pub mod Settling

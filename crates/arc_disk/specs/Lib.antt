@@ -1,0 +1,7 @@
+pub mod Disk
+pub mod Calls
+pub mod Past
+pub mod Laws
+pub mod History
+pub mod Schedule
+pub mod MemoryDisk
