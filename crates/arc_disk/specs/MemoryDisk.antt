@@ -1,5 +1,5 @@
 -- What a disk in memory tells, and what each of its calls makes of it.
-use Rattle.std.specs.Prelude.{ℕ, ◌≡◌, Bool, true, false, Option, List, [], Result, Ok, Err, IsErr}
+use Rattle.std.specs.Prelude.{ℕ, ◌≡◌, Bool, true, false, Option, None, List, [], Result, Ok, Err, IsErr}
 use Rattle.arc_disk.specs.Calls.{has_failed}
 use Rattle.arc_disk.specs.Past.{standing, MayLeave, LeftSince}
 use Rattle.arc_disk.specs.Past.Event.{Write}
@@ -64,12 +64,16 @@ stopped_at Stops d = record { history = d.history; schedule = after_stop d.sched
 abbrev pub after_idle : MemoryDisk → MemoryDisk
 after_idle d = stopped_at (next_turn d) (begun d)
 
+-- the numbers of the calls that are to fail
+abbrev pub failing_of : MemoryDisk → List ℕ
+failing_of d = d.schedule.failing.items
+
 -- No device call was made yet, no stop is set, and the calls with these numbers are to fail.
 pub record IsUnused (d : MemoryDisk) (failing : List ℕ) : Type 0 where
   pub clock : moment_of d ≡ 0
   pub count : faults_of d ≡ 0
-  pub arming : d.schedule.arming ≡ Unarmed
-  pub chosen : d.schedule.failing.items ≡ failing
+  pub stop : disk_stops_in d ≡ None
+  pub chosen : failing_of d ≡ failing
 
 -- What waited was synced where this became of the call.
 abbrev pub synced_at : Turn → MemoryDisk → MemoryDisk

@@ -4,7 +4,6 @@ ghost use Rattle.arc_disk.specs.Disk.{Crashes, Elapses, IsUntouched, Keeps, Only
 ghost use Rattle.arc_disk.specs.Calls.{IsCall, IsNoCall, has_failed};
 
 use arc_bytes::Failed;
-use std::alloc::AllocError;
 
 /// How a write ended badly.
 #[derive(Clone, Copy, Debug, PartialEq, Eq)]
@@ -13,12 +12,6 @@ pub enum WriteEnd {
     Failed,
     /// There was no memory left, and nothing was written.
     Memory,
-}
-
-impl From<AllocError> for WriteEnd {
-    fn from(_: AllocError) -> WriteEnd {
-        WriteEnd::Memory
-    }
 }
 
 /// A disk. Its four device calls are `len`, `read_at`, `write_at` and `sync`.
