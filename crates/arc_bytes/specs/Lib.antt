@@ -4,3 +4,4 @@ pub mod Sink
 pub mod All
 pub mod InMemory
 pub mod Stream
+pub mod Five

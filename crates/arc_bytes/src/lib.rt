@@ -10,6 +10,7 @@
 
 mod all;
 mod counts;
+mod five;
 mod memory_sink;
 mod memory_source;
 mod outcome;
@@ -18,6 +19,7 @@ mod source;
 mod stream;
 
 pub use all::{ReadEnd, read_all, write_all};
+pub use five::Five;
 pub use memory_sink::MemorySink;
 pub use memory_source::MemorySource;
 pub use outcome::{Failed, Memory};

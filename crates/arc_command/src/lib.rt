@@ -10,12 +10,16 @@
 
 mod command;
 mod list;
+mod message;
+mod record;
 mod reply;
 mod text;
 
 pub use arc_ids::{CommandId, ControlId, PanelId, RuleId};
 pub use command::{Batch, Command, Entry, MAX_MS, Op, is_valid};
 pub use list::List;
+pub use message::{Answer, Message};
+pub use record::Record;
 pub use reply::{Body, ControlItem, Named, Refusal, Reply};
 pub use text::Text;
 
