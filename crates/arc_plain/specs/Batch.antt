@@ -23,7 +23,7 @@ refuse_forbidden (first ∷ others) = Err (IsForbidden (first ∷ others))
 abbrev pub with_batch : PlainControls → Batch → ℕ → PlainControls
 with_batch plain batch now = record {
   panels = with_states plain.panels batch.entries;
-  rules = with_changes plain.rules (changed_by batch (on_of plain.panels)) now;
+  rules = with_changes plain.rules (changed_by batch.entries (on_of plain.panels)) now;
 }
 
 -- The first unknown control refuses a batch, then its first unknown override, then all rules that forbid it. Else all

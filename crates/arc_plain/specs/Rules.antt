@@ -8,6 +8,7 @@ use Rattle.arc_ids.specs.declared.named_id.PanelId.{PanelId}
 use Rattle.arc_ids.specs.declared.named_id.ControlId.{ControlId}
 use Rattle.arc_ids.specs.declared.named_id.RuleId.{RuleId}
 use Rattle.arc_command.specs.declared.command.Batch.{Batch}
+use Rattle.arc_command.specs.declared.command.Entry.{Entry}
 use Rattle.arc_command.specs.declared.reply.Named.TheVariants as named
 use Rattle.arc_command.specs.declared.reply.Refusal.{Refusal}
 use Rattle.arc_command.specs.declared.reply.Refusal.TheVariants.{NotFound, Limit, NameTaken}
@@ -66,14 +67,14 @@ value_of config controls on =
 
 -- ---- what a batch changes
 
--- which controls are On after the whole batch
-abbrev pub after : Batch → (ControlId → Bool) → ControlId → Bool
-after batch on control =
-    unwrap_or (option_map (λ e. e.on) (find (λ e. e.control.0 == control.0) batch.entries)) (on control)
+-- which controls are On after all entries of a batch
+abbrev pub after : List Entry → (ControlId → Bool) → ControlId → Bool
+after entries on control =
+    unwrap_or (option_map (λ e. e.on) (find (λ e. e.control.0 == control.0) entries)) (on control)
 
 -- the controls of a batch whose new state differs from their present one
-abbrev pub changed_by : Batch → (ControlId → Bool) → List ControlId
-changed_by batch on = filter (λ c. not (beq (after batch on c) (on c))) (map (λ e. e.control) batch.entries)
+abbrev pub changed_by : List Entry → (ControlId → Bool) → List ControlId
+changed_by entries on = filter (λ c. not (beq (after entries on c) (on c))) (map (λ e. e.control) entries)
 
 -- ---- when a rule forbids a batch
 
@@ -104,7 +105,7 @@ wait_cause wait now (Some last) = if nat_lt now (last + wait) then Some (Waiting
 
 -- why a rule forbids a batch that it watches: by its value, or else by its wait
 abbrev pub cause_of : RuleSpec → Option ℕ → Batch → (ControlId → Bool) → ℕ → Option Cause
-cause_of spec last batch on now = option_or (value_cause spec on (after batch on)) (wait_cause spec.wait_ms now last)
+cause_of spec last batch on now = option_or (value_cause spec on (after batch.entries on)) (wait_cause spec.wait_ms now last)
 
 -- whether a batch overrides a rule
 abbrev pub overrides : Batch → RuleId → Bool
@@ -112,7 +113,7 @@ overrides batch rule = list_any (λ r. r.0 == rule.0) batch.overrides
 
 -- whether a batch changes a control that a rule watches
 abbrev pub meets : Batch → (ControlId → Bool) → RuleSpec → Bool
-meets batch on spec = list_any (is_among (watched_by spec)) (changed_by batch on)
+meets batch on spec = list_any (is_among (watched_by spec)) (changed_by batch.entries on)
 
 -- Where a batch doesn't override a rule and changes a control that it watches, the rule may forbid it: at this list
 -- time, with this time of its last change.
@@ -181,19 +182,27 @@ found_rule rule (Some there) = Ok there
 abbrev pub renamed : List ℕ → ℕ → RuleSpec → RuleSpec
 renamed name wait spec = record spec { name = name; wait_ms = wait }
 
--- the same of the rule with this identifier alone
-abbrev pub with_renamed : PlainRules → RuleId → List ℕ → ℕ → PlainRules
-with_renamed plain rule name wait = record plain {
-  rules = map (λ (r : PlainRule). if r.rule.0 == rule.0 then record r { spec = renamed name wait r.spec } else r) plain.rules;
-}
+-- a list with its first item that passes changed
+abbrev pub change_first : {A : Type 0} → (A → Bool) → (A → A) → List A → List A
+change_first passes change [] = []
+change_first passes change (x ∷ xs) = if passes x then change x ∷ xs else x ∷ change_first passes change xs
+
+-- whether it is the rule with this identifier, and of this kind
+abbrev pub is_rule : Bool → RuleId → PlainRule → Bool
+is_rule gating rule r = (r.rule.0 == rule.0) && beq (is_gate r.spec) gating
+
+-- with another name and another wait of this rule
+abbrev pub with_renamed : PlainRules → Bool → RuleId → List ℕ → ℕ → PlainRules
+with_renamed plain gating rule name wait =
+    record plain { rules = change_first (is_rule gating rule) (λ r. record r { spec = renamed name wait r.spec }) plain.rules }
 
 -- A rule is updated as the kind that it is. It goes on from the changes that it has seen.
 unfoldable pub update_rule : PlainRules → Bool → RuleId → List ℕ → ℕ → Result (Unit {0} × PlainRules) Refusal
 update_rule plain gating rule name wait = do
-  there ← found_rule rule (find (λ r. (r.rule.0 == rule.0) && beq (is_gate r.spec) gating) plain.rules)
+  there ← found_rule rule (find (is_rule gating rule) plain.rules)
   free ← refuse_found (λ holder. NameTaken (named.Rule holder.rule))
       (find (λ r. not (r.rule.0 == rule.0) && holds_name there.spec.panel name r.spec) plain.rules)
-  Ok (tt, with_renamed plain rule name wait)
+  Ok (tt, with_renamed plain gating rule name wait)
 
 -- without a rule
 abbrev pub without_rule : PlainRules → RuleId → PlainRules
