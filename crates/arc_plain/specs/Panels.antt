@@ -1,5 +1,6 @@
 -- Panels and their controls, and what the operations on them do.
 use Rattle.std.specs.Prelude.{ℕ, ◌+◌, ◌==◌, ◌&&◌, ◌++◌, List, [], ◌∷◌, codes, length, filter, find, Bool, false, not, nat_lt, Option, Some, None, Result, Ok, is_some, unwrap_or}
+use Rattle.std.specs.List.{list_any}
 use Rattle.std.specs.Option.{option_map}
 use Rattle.std.specs.Str.{bytes_eq}
 use Rattle.arc_ids.specs.declared.named_id.PanelId.{PanelId}
@@ -44,7 +45,7 @@ most_panels = 16
 
 -- whether there is a panel
 abbrev pub has_panel : PlainPanels → PanelId → Bool
-has_panel plain panel = is_some (find (λ p. p.panel.0 == panel.0) plain.panels)
+has_panel plain panel = list_any (λ p. p.panel.0 == panel.0) plain.panels
 
 -- the control with this identifier
 abbrev pub control_of : PlainPanels → ControlId → Option ControlItem

@@ -132,7 +132,7 @@ forbidding plain batch on now =
 
 -- whether there is a rule
 abbrev pub has_rule : PlainRules → RuleId → Bool
-has_rule plain rule = is_some (find (λ r. r.rule.0 == rule.0) plain.rules)
+has_rule plain rule = list_any (λ r. r.rule.0 == rule.0) plain.rules
 
 -- whether a rule names a control, as an asserted, a gating or a target control
 abbrev pub names_control : RuleSpec → ControlId → Bool
