@@ -3,3 +3,4 @@ pub mod Items
 pub mod Texts
 pub mod Putting
 pub mod Lengths
+pub mod Keys

@@ -5,3 +5,4 @@ pub mod Reader
 pub mod Reading
 pub mod Laws
 pub mod Entries
+pub mod States

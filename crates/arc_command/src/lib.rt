@@ -21,7 +21,10 @@ mod message;
 mod op_bytes;
 mod record;
 mod record_bytes;
+mod part_end;
 mod reply;
+mod rule;
+mod states;
 mod text;
 
 pub use arc_ids::{CommandId, ControlId, PanelId, RuleId};
@@ -33,7 +36,10 @@ pub use equality::Equals;
 pub use list::List;
 pub use message::{Answer, Message};
 pub use record::Record;
+pub use part_end::PartEnd;
 pub use reply::{Body, ControlItem, Named, Refusal, Reply};
+pub use rule::{Cause, Forbidden, RuleConfig, RuleItem, RuleKind, RuleSpec};
+pub use states::States;
 pub use text::Text;
 
 #[cfg(test)]

@@ -2,3 +2,5 @@ pub mod Steps
 pub mod Counts
 pub mod Sets
 pub mod Kept
+pub mod Found
+pub mod Lists

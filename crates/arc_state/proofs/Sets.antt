@@ -10,7 +10,7 @@ use Rattle.arc_plain.specs.Controls.{set_by, with_set}
 use Rattle.arc_plain.specs.Laws.{AreAscending}
 use Rattle.arc_plain.proofs.Sets.{drawn_after_sets, length_after_sets}
 use Rattle.arc_state.specs.Controls.{AreKept}
-use Rattle.arc_state.proofs.Found.{find_nowhere}
+use Rattle.arc_plain.proofs.Found.{find_nowhere}
 
 -- the last of two changes decides
 set_by_twice : (b : Bool) (e : Entry) (o : Option Entry) (c : ControlItem) →

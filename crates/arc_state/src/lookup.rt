@@ -15,7 +15,7 @@ pub(crate) fn place_of(controls: &[ControlItem], id: ControlId) -> Option<usize>
 }
 
 /// The control with this identifier.
-#[tactic(auto, using(crate::proofs::Found::find_nowhere, crate::proofs::Found::find_there))]
+#[tactic(auto, using(arc_plain::proofs::Found::find_nowhere, arc_plain::proofs::Found::find_there))]
 pub(crate) fn control_of(controls: &[ControlItem], id: ControlId) -> Option<&ControlItem>
     requires { AreAscending controls.now }
     ensures { option_copied result ≡ find (λ c. c.control.0 == id.0) controls.now }
