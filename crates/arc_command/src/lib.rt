@@ -10,13 +10,19 @@
 
 mod command;
 mod list;
+mod part_end;
 mod reply;
+mod rule;
+mod states;
 mod text;
 
 pub use arc_ids::{CommandId, ControlId, PanelId, RuleId};
 pub use command::{Batch, Command, Entry, MAX_MS, Op, is_valid};
 pub use list::List;
+pub use part_end::PartEnd;
 pub use reply::{Body, ControlItem, Named, Refusal, Reply};
+pub use rule::{Cause, Forbidden, RuleConfig, RuleItem, RuleKind, RuleSpec};
+pub use states::States;
 pub use text::Text;
 
 #[cfg(test)]

@@ -1,5 +1,5 @@
 //! Replies: what was done, or why not.
-use crate::{ControlId, PanelId, RuleId, Text};
+use crate::{ControlId, Forbidden, List, PanelId, RuleId, Text};
 
 /// A control as replies show it.
 #[derive(Debug, Drop)]
@@ -30,6 +30,10 @@ pub enum Refusal {
     Limit { count: u32 },
     /// The name is another's.
     NameTaken { id: Named },
+    /// It is in use by another, or can't be removed at all.
+    InUse { id: Named },
+    /// Safety rules forbid the batch: all of them, in order of creation.
+    Forbidden { rules: List<Forbidden> },
 }
 
 /// What a command that was done answers.
