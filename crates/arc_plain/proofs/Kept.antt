@@ -1,5 +1,5 @@
 -- What holds of the controls after every list of commands.
-use Rattle.std.proofs.Common.{◌≡◌, ◌≢◌, ℕ, ◌+◌, ◌<◌, ◌≤◌, ◌==◌, ◌&&◌, Bool, true, false, cond, List, [], ◌∷◌, ◌++◌, length, get_or, fold, find, Option, Some, None, All, AllPairs, bytes_eq, refl, sym, arith, eqb, zero, suc, ◌∙◌}
+use Rattle.std.proofs.Common.{◌≡◌, ◌≢◌, ℕ, ◌+◌, ◌<◌, ◌≤◌, ◌==◌, ◌&&◌, Bool, true, false, cond, List, [], ◌∷◌, ◌++◌, length, get_or, find, Option, Some, None, All, bytes_eq, refl, sym, arith, zero, suc, ◌∙◌}
 use Rattle.std.proofs.lemmas.Bool.Decides.{Decides-and, Decides-eqb, not_from_Decides}
 use Rattle.std.proofs.lemmas.Slice.Eq.{bytes_eq-Decides}
 use Rattle.std.proofs.lemmas.List.{length-append}
@@ -7,11 +7,10 @@ use Rattle.std.proofs.lemmas.List.Elements.{All-push}
 use Rattle.std.proofs.lemmas.List.Quantifiers.{all_pairs_push}
 use Rattle.arc_ids.specs.declared.named_id.PanelId.{PanelId}
 use Rattle.arc_command.specs.declared.command.Command.{Command}
-use Rattle.arc_command.specs.declared.command.Entry.{Entry}
 use Rattle.arc_command.specs.declared.reply.ControlItem.{ControlItem}
 use Rattle.arc_plain.specs.State.{Plain, fresh}
-use Rattle.arc_plain.specs.Controls.{holder_of, most_controls, next_control, with_control, with_entries, with_set}
-use Rattle.arc_plain.specs.Cluster.{arrived, fold_of, next}
+use Rattle.arc_plain.specs.Controls.{holder_of}
+use Rattle.arc_plain.specs.Cluster.{fold_of, next}
 use Rattle.arc_plain.specs.Laws.{AreDrawn, AreNamedApart, IsWithinLimit}
 use Rattle.arc_plain.proofs.Steps.{next_cases, fold_keeps}
 use Rattle.arc_plain.proofs.Sets.{drawn_after_sets, length_after_sets, pairs_after_sets}

@@ -1,5 +1,5 @@
 -- Setting controls changes nothing of them but whether they are On.
-use Rattle.std.proofs.Common.{◌≡◌, ℕ, ◌<◌, ◌≤◌, ◌==◌, List, map, find, length, get_or, Option, Some, None, AllPairs, refl, arith}
+use Rattle.std.proofs.Common.{◌≡◌, ℕ, ◌<◌, ◌==◌, List, find, length, get_or, Option, Some, None, AllPairs, refl, arith}
 use Rattle.std.proofs.lemmas.List.{get_or-map, length-map}
 use Rattle.arc_command.specs.declared.command.Entry.{Entry}
 use Rattle.arc_command.specs.declared.reply.ControlItem.{ControlItem}

@@ -8,7 +8,6 @@ use Rattle.arc_command.specs.declared.command.Entry.{Entry}
 use Rattle.arc_command.specs.declared.reply.Body.{Body}
 use Rattle.arc_command.specs.declared.reply.Body.TheVariants.{Empty, Control, ControlState}
 use Rattle.arc_command.specs.declared.reply.ControlItem.{ControlItem}
-use Rattle.arc_command.specs.declared.reply.Named.{Named}
 use Rattle.arc_command.specs.declared.reply.Named.TheVariants as named
 use Rattle.arc_command.specs.declared.reply.Refusal.{Refusal}
 use Rattle.arc_command.specs.declared.reply.Refusal.TheVariants.{NotFound, Limit, NameTaken}
