@@ -36,11 +36,11 @@ pub insert_by_number : (cmp : ControlId → ControlId → Ordering) → IsByNumb
     map_of n ≡ insert (map_of m) k.0 on
 insert_by_number cmp by_number m n k on updates =
     same_map nat_cmp_total nat_cmp-IsAntisymmetric (map_of n) (insert (map_of m) k.0 on) (λ q.
-        let c : ControlId = record { 0 = q } in
-        get_by_number cmp by_number n c
-        ∙ updates.0 c
-        ∙ rw (same_number cmp by_number k c, ← get_by_number cmp by_number m c) refl
-        ∙ sym (get-insert nat_cmp_total (map_of m) k.0 on q))
+    let c : ControlId = record { 0 = q } in
+    get_by_number cmp by_number n c
+    ∙ updates.0 c
+    ∙ rw (same_number cmp by_number k c, ← get_by_number cmp by_number m c) refl
+    ∙ sym (get-insert nat_cmp_total (map_of m) k.0 on q))
 
 -- what is taken away
 pub remove_by_number : (cmp : ControlId → ControlId → Ordering) → IsByNumber cmp →
@@ -48,8 +48,8 @@ pub remove_by_number : (cmp : ControlId → ControlId → Ordering) → IsByNumb
     map_of n ≡ remove (map_of m) k.0
 remove_by_number cmp by_number m n k updates =
     same_map nat_cmp_total nat_cmp-IsAntisymmetric (map_of n) (remove (map_of m) k.0) (λ q.
-        let c : ControlId = record { 0 = q } in
-        get_by_number cmp by_number n c
-        ∙ updates.0 c
-        ∙ rw (same_number cmp by_number k c, ← get_by_number cmp by_number m c) refl
-        ∙ sym (get-remove nat_cmp_total (map_of m) k.0 q))
+    let c : ControlId = record { 0 = q } in
+    get_by_number cmp by_number n c
+    ∙ updates.0 c
+    ∙ rw (same_number cmp by_number k c, ← get_by_number cmp by_number m c) refl
+    ∙ sym (get-remove nat_cmp_total (map_of m) k.0 q))

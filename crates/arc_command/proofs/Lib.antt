@@ -4,3 +4,4 @@ pub mod Texts
 pub mod Putting
 pub mod Lengths
 pub mod Keys
+pub mod Zones

@@ -1,6 +1,7 @@
 //! What can be said to the cluster, and what it answers: commands, operations, replies and refusals, as plain data.
 //!
-//! It stands on `arc_ids` for identifiers and on `arc_bytes` for `Memory`. Everything that knows a command stands on it.
+//! It stands on `arc_ids` for identifiers, on `arc_window` for weekly windows and on `arc_bytes` for `Memory`. Everything
+//! that knows a command stands on it.
 //!
 //! The law that it keeps: contracts see a text as its bytes and a list as its items, so that plain data is compared as
 //! a whole. A copy equals its original, and `Equals` tells exactly whether two values are one.
@@ -22,14 +23,20 @@ mod op_bytes;
 mod record;
 mod record_bytes;
 mod part_end;
+mod practice;
 mod reply;
+mod resource;
 mod rule;
+mod shift;
 mod states;
 mod text;
+mod zone;
 
 pub use arc_ids::{CommandId, ControlId, PanelId, RuleId};
 pub use bytes::CommandEnd;
 pub use codec::{decode, decode_record, encode, encode_record};
+pub use arc_ids::{CommandId, ControlId, PanelId, ResourceId, RuleId, ShiftId};
+pub use arc_window::Window;
 pub use command::{Batch, Command, Entry, MAX_MS, Op, is_valid};
 pub use entries::{closed_len, promise, top_vote};
 pub use equality::Equals;
@@ -37,10 +44,14 @@ pub use list::List;
 pub use message::{Answer, Message};
 pub use record::Record;
 pub use part_end::PartEnd;
+pub use practice::{BlockCause, Configured, Ending, PracticeChange, PracticeConfig, Run};
 pub use reply::{Body, ControlItem, Named, Refusal, Reply};
+pub use resource::{Resource, ResourceItem};
 pub use rule::{Cause, Forbidden, RuleConfig, RuleItem, RuleKind, RuleSpec};
+pub use shift::{Kind, Outcome, Shift, ShiftItem, Status};
 pub use states::States;
 pub use text::Text;
+pub use zone::ZoneName;
 
 #[cfg(test)]
 mod tests;

@@ -1,5 +1,8 @@
 //! Replies: what was done, or why not.
-use crate::{ControlId, Forbidden, List, PanelId, RuleId, Text};
+use crate::{
+    BlockCause, ControlId, Forbidden, Kind, List, PanelId, ResourceId, RuleId, ShiftId, Status,
+    Text, ZoneName,
+};
 
 /// A control as replies show it.
 #[derive(Debug, Drop)]
@@ -17,6 +20,9 @@ pub enum Named {
     Panel(PanelId),
     Control(ControlId),
     Rule(RuleId),
+    Resource(ResourceId),
+    Shift(ShiftId),
+    Zone(ZoneName),
 }
 
 /// Why a command changed nothing but list time and the number of commands.
@@ -34,6 +40,18 @@ pub enum Refusal {
     InUse { id: Named },
     /// Safety rules forbid the batch: all of them, in order of creation.
     Forbidden { rules: List<Forbidden> },
+    /// The resource has no configuration of practice runs.
+    NotConfigured { resource: ResourceId },
+    /// The resource has one already.
+    Configured { resource: ResourceId },
+    /// The zone is in autoshift already.
+    Started { zone: ZoneName },
+    /// The shift is over.
+    NotActive { status: Status },
+    /// Another shift moves the resource's traffic away.
+    Busy { by: Kind },
+    /// Practice runs of the resource don't start now.
+    Blocked { cause: BlockCause },
 }
 
 /// What a command that was done answers.

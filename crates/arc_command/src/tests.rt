@@ -150,3 +150,26 @@ fn command_of(op: Op) -> Command {
         op,
     }
 }
+fn a_zone_has_1_to_32_bytes_and_gives_its_name_back(rt: HostRuntime) -> Result<(), Fail> {
+    for (text, is_zone) in [
+        ("", false),
+        ("a", true),
+        ("use1-az1", true),
+        ("0123456789abcdef0123456789abcdef", true),
+        ("0123456789abcdef0123456789abcdefg", false),
+        // 16 characters of two bytes, and 17
+        ("éééééééééééééééé", true),
+        ("ééééééééééééééééé", false),
+    ] {
+        match ZoneName::of(text) {
+            Some(zone) => {
+                assert!(rt; is_zone, "{text}");
+                assert_eq!(rt; zone.as_str(), text);
+                assert_eq!(rt; Some(zone), ZoneName::of(text));
+            }
+            None => assert!(rt; !is_zone, "{text}"),
+        }
+    }
+    assert_ne!(rt; ZoneName::of("use1-az1"), ZoneName::of("use1-az2"));
+    Ok(())
+}

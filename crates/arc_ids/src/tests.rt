@@ -65,3 +65,36 @@ fn each_kind_reads_its_own_texts(rt: HostRuntime) -> Result<(), Fail> {
     assert_eq!(rt; ResourceId::of_text(rule.as_str()), Err(BadId));
     Ok(())
 }
+
+#[test]
+fn a_shift_has_a_uuid_and_is_read_in_each_of_its_forms(rt: HostRuntime) -> Result<(), Fail> {
+    let alloc = rt.alloc();
+    let shift = ShiftId(0x0123_4567_89ab_cdef);
+    assert_eq!(rt;
+        shift.text(alloc)?.as_str(),
+        "00000000-0000-0000-0123-456789abcdef"
+    );
+    for (text, read) in [
+        ("00000000-0000-0000-0123-456789abcdef", Some(shift)),
+        ("00000000-0000-0000-0123-456789ABCDEF", Some(shift)),
+        ("00000000000000000123456789abcdef", Some(shift)),
+        ("{00000000-0000-0000-0123-456789abcdef}", Some(shift)),
+        ("urn:uuid:00000000-0000-0000-0123-456789abcdef", Some(shift)),
+        (
+            "00000000-0000-0000-ffff-ffffffffffff",
+            Some(ShiftId(0xffff_ffff_ffff_ffff)),
+        ),
+        // an upper half that isn't 0
+        ("00000000-0000-0001-0123-456789abcdef", None),
+        ("10000000-0000-0000-0123-456789abcdef", None),
+        // no UUID
+        ("00000000-0000-0000-0123-456789abcde", None),
+        ("00000000-0000-0000-0123-456789abcdeg", None),
+        ("00000000-0000-0000-0123456789abcdef", None),
+        ("arn:arc:shift/0123456789abcdef", None),
+        ("", None),
+    ] {
+        assert_eq!(rt; ShiftId::of_text(text).ok(), read, "{text}");
+    }
+    Ok(())
+}

@@ -4,3 +4,6 @@ pub mod Sets
 pub mod Kept
 pub mod Found
 pub mod Lists
+pub mod Keyed
+pub mod Shifts
+pub mod Resources

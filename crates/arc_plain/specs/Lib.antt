@@ -5,3 +5,6 @@ pub mod Laws
 pub mod Panels
 pub mod Rules
 pub mod Batch
+pub mod Part
+pub mod Shifts
+pub mod Resources

@@ -1,0 +1,4 @@
+pub mod Digits
+pub mod Date
+pub mod Weekly
+pub mod Blocked
