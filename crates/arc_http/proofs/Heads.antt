@@ -1,7 +1,7 @@
 -- What the answers of the parser say of how the bytes so far are read.
-use Rattle.std.proofs.Common.{◌≡◌, ℕ, ◌+◌, ◌<◌, ◌≤◌, Bool, true, false, List, [], ◌++◌, length, take, drop, map, min, Option, Some, None, Result, Ok, Err, refl, sym, ap, ◌∙◌, subst, inl, inr, arith, length-append, length-take}
+use Rattle.std.proofs.Common.{◌≡◌, ℕ, ◌+◌, ◌<◌, ◌≤◌, List, length, map, min, Option, Some, Result, Ok, Err, refl, sym, ap, ◌∙◌, subst, inl, inr, arith, length-append, length-take}
 use Rattle.std.specs.Borrow.{Bor}
-use Rattle.std.specs.Prelude.{◌≢◌, ◌⊎◌, option_copied}
+use Rattle.std.specs.Prelude.{◌≢◌, option_copied}
 use Rattle.httparse.specs.Borrowed.{AreFields, header_parts}
 use Rattle.httparse.specs.declared.borrowed.Header.{Header}
 use Rattle.httparse.specs.declared.Status.TheVariants.{Complete, Partial}
@@ -12,9 +12,9 @@ use Rattle.httparse.specs.declared.Status.{Status}
 use Rattle.httparse.specs.declared.Error.TheVariants.{HeaderName, HeaderValue, NewLine, Token, TooManyHeaders, Version}
 use Rattle.httparse.specs.Grammar.{Field, RequestHead, print_request, ReadsRequest, HasNoRequest, NeverHasRequest, MayBecomeRequest}
 use Rattle.httparse.specs.Spans.{name_and_value, RequestExceeds, RequestOverflows}
-use Rattle.arc_http.specs.declared.end.HeadEnd.TheVariants.{BadHead, HeadTooLong}
+use Rattle.arc_http.specs.declared.end.HeadEnd.TheVariants.{BadHead}
 use Rattle.arc_http.specs.Asked.{asked_in, asked_by}
-use Rattle.arc_http.specs.Reading.{Answer, answer_in, front_of, lines_in, most_fields, most_head, HasTooManyLines, IsHopeless, IsOpen, IsReadAs}
+use Rattle.arc_http.specs.Reading.{Answer, answer_in, front_of, lines_in, most_fields, most_head, IsHopeless, IsOpen, IsReadAs}
 use Rattle.arc_http.specs.Seen.{waiting}
 use Rattle.arc_http.proofs.Lines.{exceeds_lines, no_room_left, whole_lines, whole_overflows}
 use Rattle.std.proofs.lemmas.Bool.{cases_lt, lt-ltb, le-ltb}

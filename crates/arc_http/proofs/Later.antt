@@ -1,14 +1,14 @@
 -- What later bytes change: nothing, but where they end inside a bad target.
-use Rattle.std.proofs.Common.{◌≡◌, ℕ, ◌+◌, ◌-◌, ◌<◌, ◌≤◌, Bool, true, false, List, [], ◌++◌, length, take, drop, slice_range, Option, Some, None, Result, Ok, Err, refl, sym, ap, ◌∙◌, subst, inl, inr, arith, append_assoc, append-nil, length-append, length-drop, length-take, min, take-append-drop}
+use Rattle.std.proofs.Common.{◌≡◌, ℕ, ◌+◌, ◌-◌, ◌<◌, ◌≤◌, List, [], ◌++◌, length, take, drop, slice_range, None, Result, Ok, Err, refl, sym, ap, ◌∙◌, subst, inl, inr, arith, append_assoc, append-nil, length-append, length-drop, length-take, min, take-append-drop}
 use Rattle.std.specs.Prelude.{◌⊎◌}
-use Rattle.httparse.specs.Grammar.{RequestHead, print_request, ReadsRequest, NeverHasRequest, MayBecomeRequest, EndsInTarget}
+use Rattle.httparse.specs.Grammar.{RequestHead, print_request, ReadsRequest, NeverHasRequest, EndsInTarget}
 use Rattle.httparse.specs.Spans.{RequestOverflows}
 use Rattle.httparse.proofs.GrammarLemmas.{request_unique, ReadsRequest-append}
 use Rattle.arc_http.specs.declared.end.HeadEnd.{HeadEnd}
 use Rattle.arc_http.specs.declared.end.HeadEnd.TheVariants.{BadHead, HeadTooLong}
 use Rattle.arc_http.specs.Asked.{Asked, asked_by}
-use Rattle.arc_http.specs.Laws.{IsUnread, IsBadTarget, Agree, HaveOneAnswer, KeepTheirAnswer}
-use Rattle.arc_http.specs.Reading.{Answer, answer_in, with_body, front_of, lines_in, most_fields, most_head, wanting, BeginsWith, IsHopeless, IsOpen, IsReadAs}
+use Rattle.arc_http.specs.Laws.{IsUnread, Agree, HaveOneAnswer, KeepTheirAnswer}
+use Rattle.arc_http.specs.Reading.{Answer, answer_in, front_of, lines_in, most_fields, most_head, wanting, BeginsWith, IsHopeless, IsOpen, IsReadAs}
 use Rattle.arc_http.proofs.Lines.{front_splits, lines_grow}
 use Rattle.std.proofs.lemmas.Bool.{cases_lt, lt-ltb, le-ltb, le-leb, lt-leb}
 use Rattle.std.proofs.lemmas.List.{take-append-le, drop-append-le}

@@ -1,8 +1,8 @@
 -- How many lines end in a head, in what begins one, and in what goes on behind it.
-use Rattle.std.proofs.Common.{◌≡◌, ℕ, suc, ◌+◌, ◌-◌, ◌<◌, ◌≤◌, ◌==◌, Bool, true, false, List, [], ◌∷◌, ◌++◌, length, take, drop, refl, sym, ap, ◌∙◌, subst, cond, inl, inr, arith, append_assoc, append-nil, length-append, take-append-drop, ne_eqb}
+use Rattle.std.proofs.Common.{◌≡◌, ℕ, suc, ◌+◌, ◌<◌, ◌≤◌, ◌==◌, Bool, true, false, List, [], ◌∷◌, ◌++◌, length, take, drop, refl, sym, ap, ◌∙◌, subst, cond, inl, inr, arith, append_assoc, append-nil, length-append, take-append-drop, ne_eqb}
 use Rattle.std.specs.Prelude.{All, count_by}
 use Rattle.std.specs.List.{flat_map, prefix_len}
-use Rattle.httparse.specs.Grammar.{AllPass, is_token_byte, is_uri_byte, is_value_byte, LineEnd, crlf, lf, print_end, print_blank, print_version, Field, print_field, IsField, print_section, RequestHead, IsRequestHead, print_request, ReadsRequest, HasNoRequest}
+use Rattle.httparse.specs.Grammar.{AllPass, is_token_byte, is_uri_byte, is_value_byte, LineEnd, crlf, lf, print_end, print_blank, print_version, Field, print_field, IsField, RequestHead, IsRequestHead, print_request, ReadsRequest, HasNoRequest}
 use Rattle.httparse.specs.Spans.{RequestExceeds, RequestOverflows}
 use Rattle.httparse.proofs.GrammarLemmas.{print_request-append, request_prefix_free}
 use Rattle.httparse.proofs.PieceLemmas.{Stops_token}
@@ -159,7 +159,7 @@ lines_of_text h tail is =
     start ∙ (let e : ends T ≡ length h.fields + 1 + ends tail = omega arith in e)
 
 -- the last line without its LF
-abbrev before : LineEnd → List ℕ
+abbrev pub before : LineEnd → List ℕ
 before crlf = 13 ∷ []
 before lf = []
 
@@ -172,10 +172,10 @@ before_none crlf = refl
 before_none lf = refl
 
 -- a head without its last byte, which is LF
-abbrev but_last : RequestHead → List ℕ
+abbrev pub but_last : RequestHead → List ℕ
 but_last h = head_text h (before h.last)
 
-print_splits : (h : RequestHead) → print_request h ≡ but_last h ++ 10 ∷ []
+pub print_splits : (h : RequestHead) → print_request h ≡ but_last h ++ 10 ∷ []
 print_splits h =
     sym (append-nil (print_request h))
     ∙ (print_is_text h []

@@ -1,18 +1,18 @@
 -- Parts of a head: the operation is one of them.
-use Rattle.std.proofs.Common.{◌≡◌, ℕ, suc, ◌+◌, ◌-◌, ◌<◌, ◌≤◌, Bool, true, false, List, [], ◌∷◌, ◌++◌, length, take, drop, map, reverse, slice_range, Option, Some, None, Result, Ok, Err, refl, sym, ap, ◌∙◌, subst, cond, inl, inr, arith, append_assoc, append-nil, length-append, take-append-drop}
-use Rattle.std.specs.Prelude.{◌==◌, IfSome, codes, slice_index, if◌then◌else◌}
+use Rattle.std.proofs.Common.{◌≡◌, ℕ, ◌+◌, ◌-◌, ◌<◌, ◌≤◌, List, [], ◌∷◌, ◌++◌, length, take, drop, map, reverse, slice_range, Option, Some, None, Result, Ok, Err, refl, sym, ap, ◌∙◌, subst, inl, inr, arith, append_assoc, append-nil, length-append, take-append-drop}
+use Rattle.std.specs.Prelude.{◌==◌, MatchOption, codes, slice_index, if◌then◌else◌}
 use Rattle.std.specs.List.{flat_map, after_last}
 use Rattle.std.specs.Str.{bytes_eq}
 use Rattle.httparse.specs.Grammar.{is_ows, skip_ows, trim_ows, Field, print_field, print_end, print_blank, print_section, print_version, RequestHead, print_request, ReadsRequest}
 use Rattle.httparse.specs.Spans.{name_and_value}
 use Rattle.httparse.proofs.GrammarLemmas.{print_request-append}
 use Rattle.arc_http.specs.declared.view.RequestView.{RequestView}
-use Rattle.arc_http.specs.Asked.{named_op, op_in}
+use Rattle.arc_http.specs.Asked.{most_body, named_op, op_in}
 use Rattle.arc_http.specs.Fields.{is_named, values_of}
 use Rattle.arc_http.specs.declared.end.HeadEnd.{HeadEnd}
 use Rattle.arc_http.specs.declared.end.HeadEnd.TheVariants.{BadTarget}
-use Rattle.arc_http.specs.Reading.{front_of, most_head, IsRange, AreRanges, GivesRanges}
-use Rattle.arc_http.proofs.Lines.{print_is_text}
+use Rattle.arc_http.specs.Reading.{front_of, most_head, IsRange, GivesRanges}
+use Rattle.arc_http.proofs.Lines.{but_last, print_is_text, print_splits}
 use Rattle.std.proofs.lemmas.Bool.{cases_Bool}
 use Rattle.std.proofs.lemmas.List.{reverse-append, reverse-reverse}
 use Rattle.std.proofs.Math.Seq.{take-append_seam, drop-append_seam}
@@ -187,8 +187,8 @@ part_is_range part text tail bytes p is =
 -- the ranges of a request: its operation lies in the head, its body behind it
 pub ranges_given : (bytes front rest : List ℕ) (start : ℕ) (h : RequestHead) (op : List ℕ) (found : Option (RequestView × ℕ))
     → front ≡ front_of bytes → ReadsRequest front h rest → start ≡ length (print_request h) → IsPart op (print_request h)
-    → IfSome found (λ f. IsRange bytes start f.1 f.0.body.now × (f.0.op.now ≡ op)) → GivesRanges bytes (Ok found)
-ranges_given bytes front rest start h op None is reads size part given = tt
+    → MatchOption found (length bytes < most_head + most_body) (λ f. IsRange bytes start f.1 f.0.body.now × (f.0.op.now ≡ op)) → GivesRanges bytes (Ok found)
+ranges_given bytes front rest start h op None is reads size part given = given
 ranges_given bytes front rest start h op (Some found) is reads size part given =
     let tail : List ℕ = rest ++ drop most_head bytes in
     let whole : bytes ≡ print_request h ++ tail =
@@ -198,6 +198,8 @@ ranges_given bytes front rest start h op (Some found) is reads size part given =
     let range = part_is_range op (print_request h) tail bytes part whole in
     let sizes : length bytes ≡ length (print_request h) + length tail = ap length whole ∙ length-append (print_request h) tail in
     let inside : length part.front + length op ≤ length (print_request h) = range.1 in
+    let forward : start ≤ found.1 = given.0.forward in
+    let some : length (print_request h) ≡ length (but_last h) + 1 = ap length (print_splits h) ∙ length-append (but_last h) (10 ∷ []) in
     record {
       op_start = length part.front;
       op_end = length part.front + length op;
@@ -205,4 +207,5 @@ ranges_given bytes front rest start h op (Some found) is reads size part given =
       op = record { forward = omega arith; within = omega arith; is = given.1 ∙ range.0 };
       apart = omega arith;
       body = given.0;
+      some = omega arith;
     }

@@ -1,5 +1,5 @@
 -- The statuses that are answered, and texts made of several pieces.
-use Rattle.std.proofs.Common.{◌≡◌, ℕ, ◌<◌, ◌≤◌, ◌==◌, ◌||◌, Bool, true, false, List, [], ◌∷◌, ◌++◌, refl, sym, ap, ◌∙◌, inl, inr, arith, append_assoc}
+use Rattle.std.proofs.Common.{◌≡◌, ℕ, ◌<◌, ◌≤◌, ◌==◌, ◌||◌, Bool, true, false, List, ◌++◌, refl, ap, ◌∙◌, inl, inr, arith, append_assoc}
 use Rattle.std.specs.Prelude.{◌⊎◌}
 use Rattle.http.specs.StatusCode.{IsStatusCode}
 use Rattle.arc_http.specs.Response.{IsAnswered}

@@ -1,11 +1,10 @@
 -- What std and memchr say of texts and lists, in the words of the definitions.
-use Rattle.std.proofs.Common.{◌≡◌, ℕ, ◌+◌, ◌-◌, ◌<◌, ◌≤◌, ◌==◌, ◌||◌, Bool, true, false, not, List, [], ◌∷◌, length, drop, map, get_or, refl, sym, ap, ◌∙◌, arith}
+use Rattle.std.proofs.Common.{◌≡◌, ℕ, ◌+◌, ◌-◌, ◌<◌, ◌≤◌, ◌==◌, Bool, true, false, not, List, length, drop, map, min, get_or, sym, ap, ◌∙◌, arith, length-take}
 use Rattle.std.specs.Prelude.{◌↔◌, IsTrue}
 use Rattle.std.specs.Char.{to_ascii_lowercase}
-use Rattle.std.specs.List.{after_last, list_any, suffix_len}
+use Rattle.std.specs.List.{after_last, suffix_len}
 use Rattle.std.specs.Str.{str_eq_ignore_ascii_case}
-use Rattle.httparse.specs.Borrowed.{header_parts}
-use Rattle.httparse.specs.declared.borrowed.Header.{Header}
+use Rattle.arc_http.specs.Asked.{most_body}
 use Rattle.arc_http.specs.Reading.{front_of, most_head}
 use Rattle.memchr.specs.Find.{Passes, Nowhere, NoneAfter, is_byte}
 use Rattle.std.proofs.lemmas.Bool.{false_from_ne_true, not_from_false}
@@ -50,3 +49,9 @@ without_dot value none =
 -- bytes that are no more than a head may have are all in front
 pub all_in_front : (bytes : List ℕ) → length bytes ≤ most_head → bytes ≡ front_of bytes
 all_in_front bytes short = sym (take_all most_head bytes short)
+
+-- where the front isn't full, it is all
+pub short_front : (front bytes : List ℕ) → front ≡ front_of bytes → length front < most_head → length bytes < most_head + most_body
+short_front front bytes is short =
+    let cut : length front ≡ min most_head (length bytes) = ap length is ∙ length-take most_head bytes in
+    omega arith

@@ -1,5 +1,5 @@
 -- Header fields: each a name, and a value without the white space around it.
-use Rattle.std.specs.Prelude.{ℕ, Bool, List, [], ◌∷◌, map, filter, false, true}
+use Rattle.std.specs.Prelude.{ℕ, Bool, List, map, filter}
 use Rattle.std.specs.Str.{str_eq_ignore_ascii_case}
 
 -- the header has this name; letters of either case are the same (RFC 9110, section 5.1)

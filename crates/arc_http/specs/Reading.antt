@@ -1,12 +1,12 @@
 -- How the bytes so far are read.
 use Rattle.std.specs.Prelude.{◌≡◌, ℕ, ◌+◌, ◌<◌, ◌≤◌, ◌==◌, ◌||◌, ◌⊎◌, Bool, nat_le, nat_lt, List, length, take, drop, slice_range, count_by, Option, Some, None, Result, Ok, Err, if◌then◌else◌}
 use Rattle.std.specs.List.{prefix_len}
-use Rattle.httparse.specs.Grammar.{RequestHead, print_request, ReadsRequest, HasNoRequest, NeverHasRequest, MayBecomeRequest, EndsInTarget}
+use Rattle.httparse.specs.Grammar.{RequestHead, print_request, ReadsRequest, HasNoRequest, NeverHasRequest, MayBecomeRequest}
 use Rattle.httparse.specs.Spans.{RequestOverflows}
 use Rattle.arc_http.specs.declared.end.HeadEnd.{HeadEnd}
 use Rattle.arc_http.specs.declared.end.HeadEnd.TheVariants.{BadHead, HeadTooLong}
 use Rattle.arc_http.specs.declared.view.RequestView.{RequestView}
-use Rattle.arc_http.specs.Asked.{Asked, asked_by}
+use Rattle.arc_http.specs.Asked.{Asked, asked_by, most_body}
 
 -- ---- requests and answers
 
@@ -130,9 +130,10 @@ pub record AreRanges (bytes : List ℕ) (view : RequestView) (size : ℕ) : Type
   pub op : IsRange bytes op_start op_end view.op.now
   pub apart : op_end ≤ body_start
   pub body : IsRange bytes body_start size view.body.now
+  pub some : 0 < size
 
--- the same of what a reader gave
+-- the same of what a reader gave; while more bytes are wanted, there are fewer than a request may have
 abbrev pub GivesRanges : List ℕ → Result (Option (RequestView × ℕ)) HeadEnd → Type 0
-GivesRanges bytes (Ok None) = Unit {0}
+GivesRanges bytes (Ok None) = length bytes < most_head + most_body
 GivesRanges bytes (Ok (Some found)) = AreRanges bytes found.0 found.1
 GivesRanges bytes (Err end) = Unit {0}

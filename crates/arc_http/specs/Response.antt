@@ -1,5 +1,5 @@
 -- The text of a response (RFC 9112, section 4).
-use Rattle.std.specs.Prelude.{ℕ, ◌++◌, ◌==◌, Bool, true, false, List, [], ◌∷◌, length, codes, unwrap_or, Option, Some, None, IsTrue, if◌then◌else◌}
+use Rattle.std.specs.Prelude.{ℕ, ◌++◌, ◌==◌, Bool, true, false, List, [], ◌∷◌, length, codes, unwrap_or, Option, Some, None, IsTrue}
 use Rattle.std.specs.Fmt.{decimal}
 use Rattle.std.specs.List.{list_any}
 use Rattle.http.specs.StatusCode.{code_digits, reason_phrase}

@@ -1,5 +1,5 @@
 -- How the readers inside answer what the tests say.
-use Rattle.std.specs.Prelude.{◌≡◌, ℕ, ◌+◌, nat_le, nat_lt, List, length, None, Result, Ok, Err, if◌then◌else◌}
+use Rattle.std.specs.Prelude.{◌≡◌, ℕ, ◌+◌, nat_lt, List, length, None, Result, Ok, Err, if◌then◌else◌}
 use Rattle.arc_http.specs.declared.asked.HeadView.{HeadView}
 use Rattle.arc_http.specs.declared.end.HeadEnd.{HeadEnd}
 use Rattle.arc_http.specs.declared.end.HeadEnd.TheVariants.{BadHead, HeadTooLong}

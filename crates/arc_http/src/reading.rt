@@ -1,5 +1,5 @@
 //! Reading a request from the bytes so far.
-ghost use Rattle.std.specs.Prelude.{◌≡◌, ◌≤◌, ℕ, List, length, Ok, IfSome};
+ghost use Rattle.std.specs.Prelude.{◌≡◌, ◌+◌, ◌<◌, ◌≤◌, ℕ, List, length, Ok, MatchOption};
 ghost use Rattle.arc_http.specs.Asked.{most_body};
 ghost use Rattle.arc_http.specs.Reading.{answer_in, answer_of, front_of, is_newline, lines_in, most_head, IsRange, GivesRanges, IsReadAs};
 ghost use Rattle.arc_http.specs.Seen.{asked_of, waiting};
@@ -47,7 +47,7 @@ fn lines_in(front: &[u8]) -> usize
 #[tactic(auto, unfolding(crate::specs::Seen::waiting))]
 fn wait_for_head<'a>(front: &[u8]) -> Result<Option<(RequestView<'a>, usize)>, HeadEnd>
     ensures exact { answer_of result ≡ waiting front.now }
-    ensures none { (bytes : List ℕ) → GivesRanges bytes result }
+    ensures ranges { (bytes : List ℕ) → front.now ≡ front_of bytes → GivesRanges bytes result }
 {
     // `httparse` refuses a line too many by itself. Its contract leaves that open, so the lines are counted here too.
     if lines_in(front) > MAX_FIELDS + 1 {
@@ -68,7 +68,8 @@ fn with_body<'a>(
     requires small_head { start ≤ most_head }
     requires small_body { head.body_length ≤ most_body }
     ensures exact { answer_of (Ok result) ≡ answer_in buf.now start (Ok (asked_of head.entry)) }
-    ensures ranges { IfSome result (λ found. IsRange buf.now start found.1 found.0.body.now
+    ensures ranges { MatchOption result (length buf.now < most_head + most_body)
+        (λ found. IsRange buf.now start found.1 found.0.body.now
         × (found.0.op.now ≡ head.entry.op.now)) }
 {
     let end = start + head.body_length;

@@ -169,17 +169,27 @@ fn the_first_test_that_fails_refuses(rt: HostRuntime) {
     }
 }
 
+/// Whether more bytes are wanted.
+fn wants_more(bytes: &[u8]) -> bool {
+    read_request(bytes) == Ok(None)
+}
+
+/// Whether the bytes are refused so.
+fn refuses(bytes: &[u8], end: HeadEnd) -> bool {
+    read_request(bytes) == Err(end)
+}
+
 #[test]
 fn a_65th_field_is_refused_once_its_line_is_whole(rt: HostRuntime) -> Result<(), Fail> {
     let mut head = b"POST /Op HTTP/1.1\r\nContent-Length: 0\r\n".to_vec(rt.alloc())?;
     for _ in 0..63 {
         head.extend_from_slice(b"a: b\r\n")?;
     }
-    assert_eq!(rt; read_request(head.as_slice()), Ok(None));
+    assert!(rt; wants_more(head.as_slice()));
     head.extend_from_slice(b"a: b")?;
-    assert_eq!(rt; read_request(head.as_slice()), Ok(None));
+    assert!(rt; wants_more(head.as_slice()));
     head.extend_from_slice(b"\r\n")?;
-    assert_eq!(rt; read_request(head.as_slice()), Err(HeadEnd::BadHead));
+    assert!(rt; refuses(head.as_slice(), HeadEnd::BadHead));
     Ok(())
 }
 
@@ -189,10 +199,10 @@ fn a_head_that_does_not_end_is_refused_at_its_limit(rt: HostRuntime) -> Result<(
     for _ in 0..8_185 {
         head.extend_from_slice(b"a")?;
     }
-    assert_eq!(rt; read_request(head.as_slice()), Ok(None));
+    assert!(rt; wants_more(head.as_slice()));
     head.extend_from_slice(b"a")?;
-    let long = Err(HeadEnd::HeadTooLong { limit: 8_192 });
-    assert_eq!(rt; read_request(head.as_slice()), long);
+    let long = HeadEnd::HeadTooLong { limit: 8_192 };
+    assert!(rt; refuses(head.as_slice(), long));
     Ok(())
 }
 

@@ -16,7 +16,7 @@ returns-in-Ok-Partial-clause-exact c =
     (on_partial c.parse.result is c.parse.ensures.unfinished) c.wait_for_head.ensures.exact
 
 pub returns-in-Ok-Partial-clause-ranges : goal.returns-in-Ok-Partial-clause-ranges
-returns-in-Ok-Partial-clause-ranges c = c.wait_for_head.ensures.none c.args.buf.now
+returns-in-Ok-Partial-clause-ranges c = c.wait_for_head.ensures.ranges c.args.buf.now c.front_of-front.ensures
 
 pub returns-in-Err-clause-exact : goal.returns-in-Err-clause-exact
 returns-in-Err-clause-exact c =

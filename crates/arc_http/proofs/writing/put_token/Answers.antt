@@ -1,4 +1,4 @@
-use Rattle.std.proofs.Common.{◌++◌, sym, ap, ◌∙◌}
+use Rattle.std.proofs.Common.{◌∙◌}
 use Rattle.arc_http.proofs.Statuses.{three_pieces}
 use Rattle.arc_http.proofs.writing.put_token.Goals as goal
 
