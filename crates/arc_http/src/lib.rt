@@ -1,0 +1,36 @@
+//! Requests and responses of HTTP/1.1, in the profile that this product serves.
+//!
+//! It stands on `httparse` for the grammar of heads, on `http` for the phrases of statuses, on `memchr`, and on
+//! `arc_token` for numbers and tokens. The session of a connection stands on it.
+//!
+//! A request is a head and a body. The head is what `httparse` reads in its default configuration: at most 64 fields,
+//! within the first 8,192 bytes, behind empty lines or not. It is then tested: the method, the target, the transfer
+//! coding, the length, the token, in this order, and the first test that fails refuses the request. The body is as many
+//! bytes as `Content-Length` says, at most 65,536.
+//!
+//! The law that it keeps: what the bytes so far are read as is one of three things, which `specs/Reading.antt` states
+//! apart from this code. They begin with a head, and its tests and its body decide; or no head can come of them any more,
+//! and they are refused; or a head can still come, and more bytes are wanted. Bytes that come later change nothing that
+//! was answered, but where they end inside a target (`later_bytes_change_nothing`).
+//!
+//! The caller hands in the bytes from the first one that no earlier request took, and hands them in again, with more,
+//! where nothing was answered. Reading takes no memory.
+#![tactic(auto)]
+
+mod asked;
+mod end;
+mod fields;
+mod laws;
+mod reading;
+mod target;
+mod view;
+mod writing;
+
+pub use end::HeadEnd;
+pub use laws::later_bytes_change_nothing;
+pub use reading::read_request;
+pub use view::RequestView;
+pub use writing::response;
+
+#[cfg(test)]
+mod tests;
