@@ -1,7 +1,7 @@
 -- Beginnings of one history.
 use Rattle.std.proofs.Common.{◌≡◌, ℕ, List, [], ◌∷◌, ◌++◌, refl, sym, ap, ◌∙◌, append_assoc}
 use mathlib.Core.List.{IsPrefix}
-use Rattle.arc_turn.specs.History.{History, AllBegin, longer}
+use Rattle.arc_turn.specs.History.{History, longer}
 
 -- a list begins itself
 pub begins_self : {A : Type 0} (xs : List A) → IsPrefix xs xs
@@ -11,11 +11,6 @@ begins_self (x ∷ xs) = let r = begins_self xs in (r.0, ap (λ ys. x ∷ ys) r.
 -- what begins a beginning begins the whole
 pub begins_trans : {A : Type 0} (xs ys zs : List A) → IsPrefix xs ys → IsPrefix ys zs → IsPrefix xs zs
 begins_trans xs ys zs p q = (p.0 ++ q.0, sym (append_assoc xs p.0 q.0) ∙ (ap (λ w. w ++ q.0) p.1 ∙ q.1))
-
--- where each of some histories begins a beginning, each begins the whole
-pub all_begin_trans : (hs : List History) (seen log : History) → AllBegin hs seen → IsPrefix seen log → AllBegin hs log
-all_begin_trans [] seen log a p = tt
-all_begin_trans (h ∷ hs) seen log a p = (begins_trans h seen log a.0 p, all_begin_trans hs seen log a.1 p)
 
 -- two histories that begin with one entry begin with one another as their rests do
 begins_under : (e : List ℕ) (xs ys : History) → IsPrefix xs ys → IsPrefix (e ∷ xs) (e ∷ ys)

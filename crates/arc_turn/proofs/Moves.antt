@@ -355,7 +355,7 @@ module _ {T : Type 0} (history : T → History) (name : T → List ℕ) where
       let first = first_begins v.seen w.seen d.log mine.0 its.0 in
       let second = second_begins v.seen w.seen d.log mine.0 its.0 in
       let within = longer_begins v.seen w.seen d.log mine.0 its.0 in
-      let true : IsTrueOf d both = (within, (first, (second, tt)), mine.2) in
+      let true : IsTrueOf d both = (within, ((first, refl), ((second, its.2 ∙ sym mine.2), tt)), mine.2) in
       let one = idle_set d r.views id v both r.order here idle (subst (Fits d id both) (sym idle) true)
           (r.order.whole.0, has_set r.views id r.order.whole.0 both v (HasSeenAll d.log) (HasSeenAll d.log) here
             (λ e. (begins_back both.seen d.log within (subst (λ l. IsPrefix l both.seen) e.0 first), subst IsLive (sym idle) tt)) (λ _ _ e. e) r.order.whole.1) in

@@ -4,10 +4,9 @@ use Rattle.atomic_table.specs.Seated.{TableId}
 use Rattle.atomic_table.specs.declared.badge.Badge.{Badge}
 use Rattle.arc_turn.specs.declared.view.Stage.TheVariants.{Idle}
 use Rattle.arc_turn.specs.declared.view.View.{View}
-use Rattle.arc_turn.specs.Steps.{spent}
 
--- which turn a pass is of, which of its passes it is, the history that it has seen, the name that it tells, and whether
--- it holds the turn
+-- Which turn a pass is of, which of its passes it is, the history that it has seen and the name that it tells. While it
+-- holds the turn it tells nothing else: all that is with the value that it holds.
 pub record Known : Type 0 where
   pub turn : TableId
   pub number : ℕ
@@ -15,7 +14,11 @@ pub record Known : Type 0 where
   pub name : List ℕ
   pub holds : Bool
 
--- which pass holds the value, the history and the name with which it was taken, and the value
+-- the pass is of this turn, and doesn't hold it
+abbrev pub IsFree : TableId → Known → Type 0
+IsFree turn pass = (pass.turn ≡ turn) × (pass.holds ≡ false)
+
+-- which pass of which turn took a value, the history and the name that it had then, and the value as it is
 pub record Taken (T : Type 0) : Type 0 where
   pub turn : TableId
   pub number : ℕ
@@ -23,32 +26,25 @@ pub record Taken (T : Type 0) : Type 0 where
   pub name : List ℕ
   pub value : T
 
--- the pass holds the turn, and took this value
-pub record Holds {T : Type 0} (pass : Known) (held : Taken T) : Type 0 where
-  pub holds : pass.holds ≡ true
+-- this pass took the value
+pub record TookIt {T : Type 0} (pass : Known) (held : Taken T) : Type 0 where
   pub turn : held.turn ≡ pass.turn
   pub number : held.number ≡ pass.number
   pub name : held.name ≡ pass.name
 
-abbrev pub first_view : List View → View
-first_view [] = spent
-first_view (v ∷ vs) = v
-
--- what a badge knows
-abbrev pub known_of : Badge View → Bool → Known
-known_of b holds = record {
-  turn = b.table_id;
-  number = b.id;
-  seen = (first_view b.views).seen;
-  name = (first_view b.views).name;
-  holds = holds;
-}
-
--- what a pass knows: its badge is there, or it was lent when the turn was taken
-abbrev pub known_by : List View → Badge View → Badge View → Known
-known_by [] badge lent = known_of lent true
-known_by (v ∷ vs) badge lent = known_of badge false
+-- the pass that took the value, once it has seen this history and doesn't hold the turn any more
+abbrev pub taker : {T : Type 0} → Taken T → List (List ℕ) → Known
+taker held seen = record { turn = held.turn; number = held.number; seen = seen; name = held.name; holds = false }
 
 -- the badge has a view with no ticket
 abbrev pub IsSeated : Badge View → Type 0
 IsSeated badge = (v : View) × (badge.views ≡ v ∷ []) × (v.stage ≡ Idle)
+
+-- what a pass with these views knows: the one of its seat, or none while it holds the turn
+abbrev pub known_by : TableId → ℕ → List View → Known
+known_by turn number [] = record { turn = turn; number = number; seen = []; name = []; holds = true }
+known_by turn number (v ∷ vs) = record { turn = turn; number = number; seen = v.seen; name = v.name; holds = false }
+
+-- what a pass with this badge knows
+abbrev pub known_of : Badge View → Known
+known_of b = known_by b.table_id b.id b.views

@@ -4,3 +4,4 @@ pub mod Steps
 pub mod Known
 pub mod Passes
 pub mod Holding
+pub mod Numbers

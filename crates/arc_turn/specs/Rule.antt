@@ -8,7 +8,7 @@ use Rattle.atomic_table.specs.Table.{State}
 use Rattle.arc_turn.specs.declared.view.Stage.{Stage}
 use Rattle.arc_turn.specs.declared.view.Stage.TheVariants.{Idle, Waits, Serves, Spent}
 use Rattle.arc_turn.specs.declared.view.View.{View}
-use Rattle.arc_turn.specs.History.{History, AllBegin}
+use Rattle.arc_turn.specs.History.{History, AllAgree}
 
 -- How the turn stands: the next ticket to draw and the ticket whose turn it is, the one history and the one name, the
 -- value that is at home in the slot (none while it is out), and which seat drew which ticket.
@@ -49,9 +49,9 @@ abbrev pub Has : List View → ℕ → (View → Type 0) → Type 0
 Has views seat P = (v : View) × (get_elem? views seat ≡ some v) × P v
 
 module _ {T : Type 0} (d : Standing T) where
-  -- what was seen begins the one history, what was joined begins what was seen, and the name is the one name
+  -- what was seen begins the one history, what was joined agrees with it, and the name is the one name
   abbrev pub IsTrueOf : View → Type 0
-  IsTrueOf v = IsPrefix v.seen d.log × AllBegin v.joined v.seen × (v.name ≡ d.name)
+  IsTrueOf v = IsPrefix v.seen d.log × AllAgree v.joined v.seen v.name × (v.name ≡ d.name)
 
   -- the seat drew this ticket, and it isn't past
   abbrev pub Drew : ℕ → ℕ → Type 0

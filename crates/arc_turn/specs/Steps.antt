@@ -5,8 +5,9 @@ use Rattle.atomic_table.specs.Table.{Me, Step}
 use Rattle.atomic_table.specs.declared.shared.Seat.{Seat}
 use Rattle.arc_turn.specs.declared.view.Stage.{Stage}
 use Rattle.arc_turn.specs.declared.view.Stage.TheVariants.{Idle, Waits, Serves, Spent}
+use Rattle.arc_turn.specs.declared.view.Told.{Told}
 use Rattle.arc_turn.specs.declared.view.View.{View}
-use Rattle.arc_turn.specs.History.{History, AllBegin, longer}
+use Rattle.arc_turn.specs.History.{History, AllAgree, longer}
 
 -- the view at this stage, which has seen this history
 abbrev pub view_at : Stage → History → List ℕ → View
@@ -42,9 +43,9 @@ module _ {T : Type 0} where
     LookedAt (Serves t) m found m' = m' ≡ m
     LookedAt Spent m found m' = m' ≡ m
 
-    -- in every case what was joined begins what was seen
+    -- in every case what was joined agrees with what was seen
     abbrev pub Looked : Step (Option T) → Sat T → ℕ → Sat T → Type 0
-    Looked st m found m' = AllBegin m.0.joined m.0.seen × LookedAt m.0.stage m found m'
+    Looked st m found m' = AllAgree m.0.joined m.0.seen m.0.name × LookedAt m.0.stage m found m'
 
   -- the seat has seen the history of the value that stands in its slot
   abbrev pub Counted : (T → History) → Step (Option T) → Sat T → ℕ → Sat T → Type 0
@@ -59,9 +60,13 @@ module _ {T : Type 0} where
 abbrev pub copy : View → View
 copy v = newcomer v.seen v.name
 
+-- what a seat tells another
+abbrev pub told : View → Told
+told v = record { seen = v.seen; name = v.name }
+
 -- the longer of the two histories was seen, and both wait to be compared
 abbrev pub joined : View → View → View
-joined v w = record { stage = v.stage; seen = longer v.seen w.seen; joined = v.seen ∷ w.seen ∷ []; name = v.name }
+joined v w = record { stage = v.stage; seen = longer v.seen w.seen; joined = told v ∷ told w ∷ []; name = v.name }
 
 -- the view of a seat that was joined into another
 abbrev pub spent : View

@@ -6,13 +6,11 @@ use crate::view::View;
 use atomic_table::Badge;
 use std::marker::Model;
 use std::mem;
-use std::snapshot::Snapshot;
 
-/// A pass of a turn. It has seen a part of the history from its beginning, and takes turns. It has no bytes.
+/// A pass of a turn. It has seen the history as far as some place, and takes the turn. It has no bytes.
 #[derive(Drop)]
 pub struct Pass {
     badge: Badge<View>,
-    lent: Snapshot<Badge<View>>,
 }
 
 impl Model for Pass {
@@ -31,26 +29,24 @@ impl Pass {
     /// A pass with this seat.
     pub(crate) fn of(badge: Badge<View>) -> Pass
         requires { IsSeated badge }
-        ensures { result ≡ known_of badge false }
+        ensures { result ≡ known_of badge }
     {
-        let lent = Snapshot::of(&badge);
-        Pass { badge, lent }
+        Pass { badge }
     }
 
     /// Lends the seat. From now on the pass holds the turn, until the seat comes back.
     pub(crate) fn lend(&mut self) -> Badge<View>
         requires { self.old.holds ≡ false }
-        ensures pass { self.new ≡ record self.old { holds = true } }
-        ensures seat { IsSeated result × (known_of result false ≡ self.old) }
+        ensures pass { self.new.holds ≡ true }
+        ensures seat { IsSeated result × (known_of result ≡ self.old) }
     {
-        self.lent = Snapshot::of(&self.badge);
         mem::replace(&mut self.badge, Badge::blank())
     }
 
     /// Takes the seat back.
     pub(crate) fn regain(&mut self, badge: Badge<View>)
         requires { IsSeated badge }
-        ensures { self.new ≡ known_of badge false }
+        ensures { self.new ≡ known_of badge }
     {
         self.badge = badge;
     }

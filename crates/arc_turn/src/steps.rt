@@ -111,7 +111,7 @@ pub(crate) fn split<T: Historied>(top: &Top<T>, place: &mut Place<T>) -> Place<T
     top.split_seat::<Copied>(place)
 }
 
-/// Takes in what another seat has seen, and looks: both histories begin what is seen now.
+/// Takes in what another seat has seen, and looks: both histories begin what is seen now, and the names are one.
 pub(crate) fn learn<T: Historied>(top: &Top<T>, place: &mut Place<T>, other: Place<T>)
     requires own { (place.old.table_id ≡ top.now.table_id) × (top.now.table_id.words ≡ 3) }
     requires other { (other.table_id ≡ top.now.table_id) × (other.me.1 ≡ []) }
@@ -119,6 +119,7 @@ pub(crate) fn learn<T: Historied>(top: &Top<T>, place: &mut Place<T>, other: Pla
     ensures same { IsSame place.old place.new }
     ensures joined { place.new.me ≡ (joined place.old.me.0 other.me.0, place.old.me.1) }
     ensures seen { IsPrefix place.old.me.0.seen place.new.me.0.seen × IsPrefix other.me.0.seen place.new.me.0.seen }
+    ensures name { other.me.0.name ≡ place.old.me.0.name }
 {
     top.join_seat::<Joined>(place, other);
     top.load::<Look>(place, SERVING);

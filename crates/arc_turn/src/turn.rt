@@ -1,7 +1,8 @@
 //! The turn.
 ghost use Rattle.std.specs.Prelude.{◌≡◌, true, false, IfOk, IsOk};
 ghost use mathlib.Core.List.{IsPrefix};
-ghost use Rattle.arc_turn.specs.Known.{Holds};
+ghost use Rattle.arc_turn.specs.History.{longer};
+ghost use Rattle.arc_turn.specs.Known.{IsFree, TookIt, taker};
 
 use crate::held::Held;
 use crate::historied::Historied;
@@ -39,7 +40,7 @@ impl<T: Historied> Turn<T> {
     pub fn new(alloc: Global, value: T) -> Result<(Turn<T>, Pass), Memory>
     where
         T: Drop,
-        ensures turn { IfOk result (λ t. (t.1.turn ≡ t.0) × (t.1.holds ≡ false)) }
+        ensures turn { IfOk result (λ t. IsFree t.0 t.1) }
         ensures seen { IfOk result (λ t. (t.1.seen ≡ T.history value) × (t.1.name ≡ T.name value)) }
     {
         let words = [0, 0, value.length()];
@@ -55,9 +56,9 @@ impl<T: Historied> Turn<T> {
     /// Waits for the turn. The pass then holds it, and the history of the value that it finds begins with all that the
     /// pass has seen.
     pub fn take<'a, R: Wait>(&'a self, rt: &R, pass: &mut Pass) -> Held<'a, T>
-        requires { (pass.old.turn ≡ self.now) × (pass.old.holds ≡ false) }
-        ensures pass { pass.new ≡ record pass.old { holds = true } }
-        ensures held { Holds pass.new result }
+        requires { IsFree self.now pass.old }
+        ensures holds { pass.new.holds ≡ true }
+        ensures took { TookIt pass.old result }
         ensures found { (T.history result.value ≡ result.history) × (T.name result.value ≡ result.name) }
         ensures later { IsPrefix pass.old.seen result.history }
     {
@@ -75,10 +76,10 @@ impl<T: Historied> Turn<T> {
 
     /// Gives the turn to the next. The pass has then seen the whole history of the value.
     pub fn put<'a>(&'a self, held: Held<'a, T>, pass: &mut Pass)
-        requires own { (pass.old.turn ≡ self.now) × Holds pass.old held }
+        requires holds { (pass.old.holds ≡ true) × (held.turn ≡ self.now) }
         requires grown { IsPrefix held.history (T.history held.value) }
         requires named { T.name held.value ≡ held.name }
-        ensures { pass.new ≡ record pass.old { seen = T.history held.entry.value; holds = false } }
+        ensures { pass.new ≡ taker held.entry (T.history held.entry.value) }
     {
         let top = &self.board.shared;
         let Held {
@@ -95,7 +96,7 @@ impl<T: Historied> Turn<T> {
 
     /// Another pass, which has seen what this one has. It takes no memory, and waits for nobody.
     pub fn split(&self, pass: &mut Pass) -> Result<Pass, Memory>
-        requires { (pass.old.turn ≡ self.now) × (pass.old.holds ≡ false) }
+        requires { IsFree self.now pass.old }
         ensures pass { pass.new ≡ pass.old }
         ensures other { IfOk result (λ p. p ≡ record pass.old { number = p.number }) }
         ensures memory { IsOk result }
@@ -108,10 +109,11 @@ impl<T: Historied> Turn<T> {
 
     /// Ends the other pass. This one has then seen what both had.
     pub fn join(&self, pass: &mut Pass, mut other: Pass)
-        requires pass { (pass.old.turn ≡ self.now) × (pass.old.holds ≡ false) }
-        requires other { (other.turn ≡ self.now) × (other.holds ≡ false) }
+        requires pass { IsFree self.now pass.old }
+        requires other { IsFree self.now other }
+        ensures pass { pass.new ≡ record pass.old { seen = longer pass.old.seen other.seen } }
         ensures seen { IsPrefix pass.old.seen pass.new.seen × IsPrefix other.seen pass.new.seen }
-        ensures pass { pass.new ≡ record pass.old { seen = pass.new.seen } }
+        ensures name { other.name ≡ pass.old.name }
     {
         let mut place: Place<T> = pass.lend().into_seat();
         steps::learn(&self.board.shared, &mut place, other.lend().into_seat());
@@ -120,10 +122,11 @@ impl<T: Historied> Turn<T> {
 
     /// This pass has then seen what both had. The other stays as it is.
     pub fn meet(&self, pass: &mut Pass, other: &mut Pass) -> Result<(), Memory>
-        requires pass { (pass.old.turn ≡ self.now) × (pass.old.holds ≡ false) }
-        requires other { (other.old.turn ≡ self.now) × (other.old.holds ≡ false) }
+        requires pass { IsFree self.now pass.old }
+        requires other { IsFree self.now other.old }
+        ensures pass { pass.new ≡ record pass.old { seen = longer pass.old.seen other.old.seen } }
         ensures seen { IsPrefix pass.old.seen pass.new.seen × IsPrefix other.old.seen pass.new.seen }
-        ensures pass { pass.new ≡ record pass.old { seen = pass.new.seen } }
+        ensures name { other.old.name ≡ pass.old.name }
         ensures other { other.new ≡ other.old }
         ensures memory { IsOk result }
     {

@@ -12,13 +12,19 @@ pub enum Stage {
     Spent,
 }
 
+/// What a seat tells another at a join.
+pub struct Told {
+    pub seen: [[u64; 0]; 0],
+    pub name: [u64; 0],
+}
+
 /// What a seat knows. A clause reads an array as a list, of any length.
 pub struct View {
     pub stage: Stage,
     /// The history as far as it was seen.
     pub seen: [[u64; 0]; 0],
-    /// The histories that a join put together, until a look has compared them.
-    pub joined: [[[u64; 0]; 0]; 0],
+    /// What a join put together, until a look has compared it.
+    pub joined: [Told; 0],
     /// The name of the turn's value.
     pub name: [u64; 0],
 }
