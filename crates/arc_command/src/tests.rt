@@ -150,6 +150,8 @@ fn command_of(op: Op) -> Command {
         op,
     }
 }
+
+#[test]
 fn a_zone_has_1_to_32_bytes_and_gives_its_name_back(rt: HostRuntime) -> Result<(), Fail> {
     for (text, is_zone) in [
         ("", false),

@@ -11,7 +11,7 @@ use serde_json::Value;
 use std::alloc::Global;
 
 /// The status of a reply and its text, compact JSON.
-#[tactic(auto, unfolding(crate::specs::Reply::text_of))]
+#[tactic(auto, using(crate::proofs::Floats::reply_whole), unfolding(crate::specs::Reply::text_of))]
 pub fn reply_text(alloc: Global, reply: &Reply) -> Result<(u16, Vec<u8>), Memory>
     ensures status { IfOk result (λ r. r.0 ≡ status_of reply.now) }
     ensures text { IfOk result (λ r. r.1.items ≡ text_of reply.now) }

@@ -1,5 +1,8 @@
 use super::*;
-use arc_command::{Body, ControlId, Named, PanelId, Refusal, Reply, RuleId, Text};
+use arc_command::{
+    BlockCause, Body, Cause, ControlId, Forbidden, Kind, List, Named, PanelId, Refusal, Reply,
+    ResourceId, RuleId, ShiftId, Status, Text, ZoneName,
+};
 use std::process::Abort;
 use std::test::Fail;
 
@@ -87,6 +90,119 @@ fn replies_have_their_statuses_and_texts(rt: HostRuntime) -> Result<(), Fail> {
         check(&rt, reply, status, text)?;
     }
     Ok(())
+}
+
+/// Refusals that need no memory, with what their texts have in place of what all share.
+#[test]
+fn each_refusal_has_its_status_and_members(rt: HostRuntime) -> Result<(), Fail> {
+    let resource = ResourceId(1);
+    let Some(zone) = ZoneName::of("use1-az1") else {
+        return Ok(());
+    };
+    let missing = "ResourceNotFoundException";
+    let conflict = "ConflictException";
+    let rows = [
+        (
+            Refusal::InUse {
+                id: Named::Rule(RuleId(3)),
+            },
+            409u16,
+            "\"Reason\":\"InUse\",\"Resource\":\"arn:arc:rule/0000000000000003\"",
+            conflict,
+        ),
+        (
+            Refusal::NotFound {
+                id: Named::Resource(resource),
+            },
+            404,
+            "\"Reason\":\"NotFound\",\"Resource\":\"arn:arc:resource/0000000000000001\"",
+            missing,
+        ),
+        (
+            Refusal::NotFound {
+                id: Named::Shift(ShiftId(1)),
+            },
+            404,
+            "\"Reason\":\"NotFound\",\"Resource\":\"00000000-0000-0000-0000-000000000001\"",
+            missing,
+        ),
+        (
+            Refusal::NotFound {
+                id: Named::Zone(zone),
+            },
+            404,
+            "\"Reason\":\"NotFound\",\"Resource\":\"use1-az1\"",
+            missing,
+        ),
+        (
+            Refusal::NotConfigured { resource },
+            404,
+            "\"Reason\":\"NotConfigured\",\"Resource\":\"arn:arc:resource/0000000000000001\"",
+            missing,
+        ),
+        (
+            Refusal::Configured { resource },
+            409,
+            "\"Reason\":\"Configured\",\"Resource\":\"arn:arc:resource/0000000000000001\"",
+            conflict,
+        ),
+        (
+            Refusal::Started { zone },
+            409,
+            "\"Reason\":\"Started\",\"Resource\":\"use1-az1\"",
+            conflict,
+        ),
+        (
+            Refusal::NotActive {
+                status: Status::Expired,
+            },
+            409,
+            "\"Reason\":\"NotActive\",\"Status\":\"EXPIRED\"",
+            conflict,
+        ),
+        (
+            Refusal::Busy {
+                by: Kind::PracticeRun,
+            },
+            409,
+            "\"By\":\"PRACTICE_RUN\",\"Reason\":\"Busy\"",
+            conflict,
+        ),
+        (
+            Refusal::Blocked {
+                cause: BlockCause::BlockedWindow,
+            },
+            409,
+            "\"Cause\":\"BlockedWindow\",\"Reason\":\"Blocked\"",
+            conflict,
+        ),
+    ];
+    for (refusal, status, members, kind) in rows {
+        let text = format!(in rt.alloc(); "{{{members},\"__type\":\"{kind}\"}}")?;
+        check(&rt, Reply::Refused(refusal), status, text.as_str())?;
+    }
+    Ok(())
+}
+
+#[test]
+fn a_forbidden_batch_names_all_rules_with_their_causes(rt: HostRuntime) -> Result<(), Fail> {
+    let rule = |rule, cause| Forbidden {
+        rule: RuleId(rule),
+        cause,
+    };
+    let rules = vec![in rt.alloc();
+        rule(1, Cause::AssertFalse),
+        rule(2, Cause::GateClosed),
+        rule(10, Cause::Waiting { until: 122_000 }),
+    ]?;
+    check(
+        &rt,
+        Reply::Refused(Refusal::Forbidden {
+            rules: List::of(rules),
+        }),
+        409,
+        "{\"Reason\":\"Forbidden\",\"Rules\":[{\"Cause\":\"AssertFalse\",\"SafetyRuleArn\":\"arn:arc:rule/0000000000000001\"},{\"Cause\":\"GateClosed\",\"SafetyRuleArn\":\"arn:arc:rule/0000000000000002\"},{\"Cause\":\"Waiting\",\"SafetyRuleArn\":\"arn:arc:rule/000000000000000a\",\"Until\":122000}],\"__type\":\"ConflictException\"}",
+    )
 }
 
 #[test]
