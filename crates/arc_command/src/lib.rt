@@ -42,4 +42,6 @@ pub use reply::{Body, ControlItem, Named, Refusal, Reply};
 pub use text::Text;
 
 #[cfg(test)]
+mod byte_tests;
+#[cfg(test)]
 mod tests;
