@@ -5,3 +5,9 @@ pub mod Putting
 pub mod Lengths
 pub mod Keys
 pub mod Zones
+pub mod FieldLaws
+pub mod NumberLaws
+pub mod ListLaws
+pub mod OpLaws
+pub mod CommandLaws
+pub mod RecordLaws

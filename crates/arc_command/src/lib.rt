@@ -17,6 +17,7 @@ mod entries;
 mod equality;
 mod field;
 mod fields;
+mod laws;
 mod list;
 mod message;
 mod op_bytes;
@@ -39,6 +40,10 @@ pub use codec::{decode, decode_record, encode, encode_record};
 pub use command::{Batch, Command, Entry, MAX_MS, Op, is_valid};
 pub use entries::{closed_len, promise, top_vote};
 pub use equality::Equals;
+pub use laws::{
+    commands_have_one_spelling, entries_have_one_spelling, spelled_commands_are_read,
+    spelled_entries_are_read,
+};
 pub use list::List;
 pub use message::{Answer, Message};
 pub use part_end::PartEnd;
@@ -52,5 +57,7 @@ pub use states::States;
 pub use text::Text;
 pub use zone::ZoneName;
 
+#[cfg(test)]
+mod byte_tests;
 #[cfg(test)]
 mod tests;
