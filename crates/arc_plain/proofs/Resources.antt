@@ -1,11 +1,16 @@
 -- What holds of the resources after each call.
-use Rattle.std.proofs.Common.{◌≡◌, ℕ, ◌+◌, ◌<◌, ◌≤◌, ◌==◌, Bool, true, false, cond, List, [], ◌∷◌, ◌++◌, length, get_or, map, filter, All, AllPairs, refl, sym, ap, ◌∙◌, arith, eqb}
-use Rattle.std.proofs.lemmas.List.{get_or-map, length-map, length-append}
+use Rattle.std.proofs.Common.{◌≡◌, ℕ, ◌+◌, ◌<◌, ◌≤◌, ◌==◌, Bool, true, false, cond, List, [], ◌∷◌, ◌++◌, length, get_or, map, filter, set, find, position, Some, None, is_some, Ok, Err, All, AllPairs, refl, sym, ap, ◌∙◌, arith, eqb, ltb, not, bytes_eq}
+use Rattle.std.proofs.lemmas.Bool.Decides.{nat_tests}
+use Rattle.std.proofs.lemmas.List.{get_or-map, get_or_default, length-map, length-append}
 use Rattle.std.proofs.lemmas.List.Elements.{All-push}
-use Rattle.std.proofs.lemmas.List.Quantifiers.{all_pairs_push}
+use Rattle.std.proofs.lemmas.List.Quantifiers.{all_pairs_push, position-Some}
 use Rattle.arc_ids.specs.declared.named_id.ResourceId.{ResourceId}
 use Rattle.arc_command.specs.declared.resource.Resource.{Resource}
-use Rattle.arc_plain.specs.Resources.{AreKeptResources, PlainResources, most_autoshifts, most_resources, with_autoshift, with_resource}
+use Rattle.arc_command.specs.declared.reply.Named.TheVariants as named
+use Rattle.arc_command.specs.declared.reply.Refusal.TheVariants.{NotFound}
+use Rattle.arc_plain.specs.Resources.{AreKeptResources, PlainResources, autoshift_ended, autoshift_set, is_in_autoshift, most_resources, name_holder, registered, resource_of, switched, with_autoshift, with_resource}
+use Rattle.arc_plain.proofs.Found.{find_there, find_nowhere}
+use Rattle.arc_plain.proofs.Keyed.{changed-set}
 
 -- no resource
 pub kept_at_first : AreKeptResources (record { items = []; drawn = 0; autoshifts = [] })
@@ -52,3 +57,47 @@ kept_after_autoshift r id enabled kept = record {
     id_at k d within =
         ap (λ (x : Resource). x.id.0) (get_or-map (set_one id enabled) r.items k d d within)
         ∙ same_id ((get_or r.items k d).id.0 == id.0) enabled (get_or r.items k d)
+
+-- the chosen of two
+if_yes : {A : Type 0} (b : Bool) (x y : A) → b ≡ true → cond b x y ≡ x
+if_yes b x y holds = rw holds refl
+
+-- a resource is switched at its place
+pub switched_there : (r : PlainResources) (id : ResourceId) (enabled : Bool) (i : ℕ) (d : Resource) → AreKeptResources r →
+    position (λ x. x.id.0 == id.0) r.items ≡ Some i →
+    autoshift_set r id enabled ≡ Ok (record r { items = set r.items i (switched enabled (get_or r.items i d)) })
+unfolding autoshift_set
+switched_there r id enabled i d kept there =
+    let place = (position-Some (λ x. x.id.0 == id.0) r.items i d there).0 in
+    let x = get_or r.items i d in
+    let found = find_there (λ y. y.id.0 == id.0) r.items i x there (get_or_default r.items i d x place) in
+    let some : is_some (resource_of r id) ≡ true = ap is_some found in
+    if_yes (is_some (resource_of r id)) (Ok (with_autoshift r id enabled)) (Err (NotFound (named.Resource id))) some
+    ∙ ap (λ (items : List Resource). Ok (record r { items = items })) (changed-set (λ y. y.id.0) (switched enabled) r.items id.0 i d kept.in_order there)
+
+-- there is none to switch where none has the identifier
+pub none_to_switch : (r : PlainResources) (id : ResourceId) (enabled : Bool) → position (λ x. x.id.0 == id.0) r.items ≡ None →
+    autoshift_set r id enabled ≡ Err (NotFound (named.Resource id))
+unfolding autoshift_set
+none_to_switch r id enabled nowhere =
+    let none : is_some (resource_of r id) ≡ false = ap is_some (find_nowhere (λ y. y.id.0 == id.0) r.items nowhere) in
+    rw none refl
+
+-- ---- what is done where nothing refuses it
+
+below_test : (a b : ℕ) → a < b → ltb a b ≡ true
+below_test a b below = grind (arith, nat_tests)
+
+-- a resource of a new name is registered
+pub registers : (r : PlainResources) (name : List ℕ) (zones : List (List ℕ)) → length r.items < most_resources →
+    name_holder r name ≡ None → registered r name zones ≡ Ok (with_resource r name zones)
+unfolding registered
+registers r name zones room free =
+    let test = below_test (length r.items) 64 room in
+    rw (test, free) refl
+
+-- a zone in autoshift is taken out
+pub ends : (r : PlainResources) (zone : List ℕ) → is_in_autoshift r zone ≡ true →
+    autoshift_ended r zone ≡ Ok (record r { autoshifts = filter (λ z. not (bytes_eq z zone)) r.autoshifts })
+unfolding autoshift_ended
+ends r zone there = rw there refl

@@ -10,7 +10,10 @@ use Rattle.arc_ids.specs.declared.named_id.ShiftId.{ShiftId}
 use Rattle.arc_ids.specs.declared.named_id.ResourceId.{ResourceId}
 use Rattle.arc_command.specs.declared.shift.Shift.{Shift}
 use Rattle.arc_command.specs.declared.shift.Status.TheVariants.{Active, Expired, Canceled}
-use Rattle.arc_plain.specs.Shifts.{AreAlone, AreApart, AreInOrder, AreKeptShifts, HaveStarted, active_of, is_active, new_shift, status_at, was_canceled, without_shift}
+use Rattle.arc_command.specs.declared.reply.Refusal.TheVariants.{NotActive}
+use Rattle.arc_plain.specs.Shifts.{AreAlone, AreApart, AreInOrder, AreKeptShifts, HaveStarted, active_of, changed, is_active, renewed, shift_of, status_at, was_canceled, with_changed}
+use Rattle.arc_plain.proofs.Found.{find_there}
+use Rattle.arc_plain.proofs.Keyed.{changed-set}
 use Rattle.arc_plain.proofs.Kept.{unfound}
 
 -- ---- a shift that isn't active stays so
@@ -130,3 +133,25 @@ pub alone : (xs : List Shift) → AreKeptShifts xs → AreAlone xs
 alone xs kept now begun i j d before within own active =
     let over = stays_inactive (get_or xs i d) (get_or xs j d).start now (kept.apart i j d before within own) (begun j d within) in
     absurd (cc)
+
+-- ---- what a change of a shift that is there gives
+
+-- the chosen of two
+if_yes : {A : Type 0} (b : Bool) (x y : A) → b ≡ true → cond b x y ≡ x
+if_yes b x y holds = rw holds refl
+
+-- an active shift is changed at its place
+pub changed_there : (change : Shift → Shift) (xs : List Shift) (id : ShiftId) (now i : ℕ) (d : Shift) → AreInOrder xs →
+    position (λ s. s.id.0 == id.0) xs ≡ Some i → is_active (status_at (get_or xs i d) now) ≡ true →
+    changed change xs id now (shift_of xs id) ≡ Ok (set xs i (change (get_or xs i d)))
+changed_there change xs id now i d in_order there active =
+    let place = (position-Some (λ s. s.id.0 == id.0) xs i d there).0 in
+    let x = get_or xs i d in
+    let found = find_there (λ s. s.id.0 == id.0) xs i x there (get_or_default xs i d x place) in
+    ap (changed change xs id now) found
+    ∙ if_yes (is_active (status_at x now)) (Ok (with_changed change id xs)) (Err (NotActive (status_at x now))) active
+    ∙ ap Ok (changed-set (λ s. s.id.0) change xs id.0 i d in_order there)
+
+-- a renewed shift is the same shift
+pub renewed_same : (comment : Option (List ℕ)) (minutes : Option ℕ) (now : ℕ) (s : Shift) → IsSameShift s (renewed comment minutes now s)
+renewed_same comment minutes now s = record { id = refl; resource = refl; start = refl }

@@ -8,3 +8,5 @@ pub mod Batch
 pub mod Part
 pub mod Shifts
 pub mod Resources
+pub mod Practice
+pub mod Precedence
