@@ -97,6 +97,7 @@ pub fn read_request<'a>(buf: &'a [u8]) -> Result<Option<(RequestView<'a>, usize)
     let mut head = Request::new(&mut headers);
     match head.parse(front) {
         Ok(Status::Complete(length)) => {
+            // It gives no more than there was room for. Its contract leaves that open too.
             if head.headers.len() > MAX_FIELDS {
                 return Err(HeadEnd::BadHead);
             }
