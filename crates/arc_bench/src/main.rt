@@ -3,6 +3,12 @@
 #![tactic(auto)]
 
 mod http;
+//! Measures parts of `arc`. No promise rests on this program: it prints times, and scripts in `bench/` read them.
+//!
+//! Its word names the measurement, each in a file of its own. At any other words it prints which ones it knows.
+#![tactic(auto)]
+
+mod turn;
 
 use std::env;
 use std::io;
@@ -12,5 +18,8 @@ fn main(rt: HostRuntime) -> io::Result<()> {
     match word.as_ref().map(|word| word.as_str()) {
         Some("http") => http::measure(&rt),
         _ => println!(rt; "arc_bench: one measurement, named by a word"),
+    match word.as_ref().map(|w| w.as_str()) {
+        Some("turn") => turn::measure(&rt, rt.alloc()),
+        _ => println!(rt; "measurements: turn"),
     }
 }

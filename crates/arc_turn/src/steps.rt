@@ -46,10 +46,15 @@ pub(crate) fn await_turn<T: Historied, R: Wait>(rt: &R, top: &Top<T>, place: &mu
 {
     let backoff = Backoff::new();
     for _ in rt.forever() {
-        if top.load::<Look>(place, SERVING) == ticket {
+        let serving = top.load::<Look>(place, SERVING);
+        if serving == ticket {
             return;
         }
-        backoff.snooze();
+        if backoff.is_completed() {
+            top.park(rt, SERVING, (serving % (1 << 32)) as u32);
+        } else {
+            backoff.snooze();
+        }
     }
     unreachable!()
 }
@@ -89,7 +94,7 @@ pub(crate) fn count<T: Historied>(top: &Top<T>, place: &mut Place<T>, entries: u
     top.swap::<Count>(place, LENGTH, entries);
 }
 
-/// Serves the next ticket. The slot is then at home.
+/// Serves the next ticket, and wakes those that wait, if any ticket is drawn. The slot is then at home.
 pub(crate) fn serve<T: Historied>(top: &Top<T>, place: &mut Place<T>)
     requires own { (place.old.table_id ≡ top.now.table_id) × (top.now.table_id.words ≡ 3) }
     requires turn { (t : ℕ) × (place.old.me.0.stage ≡ Serves t) }
@@ -98,7 +103,10 @@ pub(crate) fn serve<T: Historied>(top: &Top<T>, place: &mut Place<T>)
     ensures same { IsSame place.old place.new }
     ensures idle { place.new.me ≡ (view_at Idle place.old.me.0.seen place.old.me.0.name, []) }
 {
-    top.fetch_add::<Serve>(place, SERVING, 1);
+    let served = top.fetch_add::<Serve>(place, SERVING, 1);
+    if top.peek(NEXT) != served.wrapping_add(1) {
+        top.wake_all(SERVING);
+    }
 }
 
 /// A new seat that has seen what this one has.
@@ -122,5 +130,5 @@ pub(crate) fn learn<T: Historied>(top: &Top<T>, place: &mut Place<T>, other: Pla
     ensures name { other.me.0.name ≡ place.old.me.0.name }
 {
     top.join_seat::<Joined>(place, other);
-    top.load::<Look>(place, SERVING);
+    let _compared = top.load::<Look>(place, SERVING);
 }

@@ -11,8 +11,8 @@ join_seat-requires g c = (
   joins g.T.Historied.history g.T.Historied.name _ _ _ _ c.requires.idle.0 c.requires.idle.1,
 )
 
-pub load-requires : goal.load-requires
-load-requires g c = let both = c.join_seat.ensures in (
+pub load-compared-requires : goal.load-compared-requires
+load-compared-requires g c = let both = c.join_seat.ensures in (
   both.0 ∙ c.requires.own.0,
   omega (arith, c.requires.own.1),
   looks_idle g.T.Historied.history g.T.Historied.name _ _ _ (ap (λ m. m.0.stage) both.2 ∙ c.requires.idle.0),

@@ -2,8 +2,8 @@ use Rattle.std.proofs.Common.{arith}
 use Rattle.arc_turn.proofs.Moves.{serves}
 use Rattle.arc_turn.proofs.steps.serve.Goals as goal
 
-pub fetch_add-requires : goal.fetch_add-requires
-fetch_add-requires g c =
+pub fetch_add-served-requires : goal.fetch_add-served-requires
+fetch_add-served-requires g c =
     let slot = c.requires.slot in (
       c.requires.own.0,
       omega (arith, c.requires.own.1),
