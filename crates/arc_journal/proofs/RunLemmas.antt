@@ -2,7 +2,7 @@
 use Rattle.std.proofs.Common.{ℕ, zero, suc, ◌≡◌, ◌≤◌, ◌<◌, ◌-◌, ◌+◌, Bool, true, false, IsTrue, Option, None, Some, Result, Ok, Err, refl, sym, ◌∙◌, ap, subst, arith}
 use Rattle.std.specs.Prelude.{unwrap_or}
 use Rattle.arc_bytes.specs.Counts.{next_count}
-use Rattle.arc_disk.specs.Calls.{Counted}
+use Rattle.arc_disk.specs.Calls.{Counted, IsCall, sooner}
 use Rattle.arc_disk.specs.declared.disk.WriteEnd.{WriteEnd}
 use Rattle.arc_disk.specs.declared.disk.WriteEnd.TheVariants.{Failed, Memory}
 use Rattle.arc_journal.specs.Runs.{clock_after, sooner_by, NoStopWithin, IsRun, WritesInRun}
@@ -15,6 +15,10 @@ sooner_behind : (m n : ℕ) (stop : Option ℕ) → sooner_by n (sooner_by m sto
 sooner_behind m n None = refl
 sooner_behind m n (Some calls) = let same : calls - m - n ≡ calls - (m + n) = omega arith in ap (λ (k : ℕ). Some k) same
 
+sooner_behind_none : (stop : Option ℕ) → stop ≡ sooner_by 0 stop
+sooner_behind_none None = refl
+sooner_behind_none (Some calls) = let same : calls ≡ calls - 0 = omega arith in ap (λ (k : ℕ). Some k) same
+
 -- a stop that comes next, after calls that went well, was set behind these calls
 stop_behind : (m n : ℕ) (stop : Option ℕ) → NoStopWithin m stop → 1 ≤ n → sooner_by m stop ≡ Some (n - 1) → stop ≡ Some (m + n - 1)
 stop_behind m n None later some is = absurd (cc)
@@ -25,6 +29,15 @@ stop_behind m n (Some calls) later some is =
 no_stop_behind : (m n : ℕ) (stop : Option ℕ) → NoStopWithin m stop → NoStopWithin n (sooner_by m stop) → NoStopWithin (m + n) stop
 no_stop_behind m n None first second = tt
 no_stop_behind m n (Some calls) first second = omega (arith, first, second)
+
+sooner_by_one : (stop : Option ℕ) → sooner stop ≡ sooner_by 1 stop
+sooner_by_one None = refl
+sooner_by_one (Some calls) = refl
+
+pub no_stop_next : (stop : Option ℕ) → (stop ≡ Some 0 → ⊥) → NoStopWithin 1 stop
+no_stop_next None later = tt
+no_stop_next (Some zero) later = absurd (later refl)
+no_stop_next (Some (suc calls)) later = omega arith
 
 module _ {D : Type 0} (moment faults : D → ℕ) (stops_in : D → Option ℕ) (is_tame : D → Type 0) where
   pub run_behind : (old between new : D) (m n : ℕ) (failed : Bool) → IsRun moment faults stops_in is_tame old between m false
@@ -37,6 +50,41 @@ module _ {D : Type 0} (moment faults : D → ℕ) (stops_in : D → Option ℕ) 
     tame = λ was. second.tame (first.tame was);
     chosen = λ was fails. stop_behind m n (stops_in old) no_stop some (sym first.nearer ∙ second.chosen (first.tame was) fails);
   }
+
+  pub no_run : (disk : D) → IsRun moment faults stops_in is_tame disk disk 0 false
+  no_run disk = record {
+    later = omega arith;
+    clock = refl;
+    count = (omega arith, refl);
+    nearer = sooner_behind_none (stops_in disk);
+    tame = λ was. was;
+    chosen = λ was fails. absurd (cc fails);
+  }
+
+  pub run_of_one : (old new : D) (failed : Bool) → IsCall moment faults stops_in is_tame old new failed → IsRun moment faults stops_in is_tame old new 1 failed
+  run_of_one old new failed call = record {
+    later = call.later;
+    clock = call.clock;
+    count = call.count;
+    nearer = call.nearer ∙ sooner_by_one (stops_in old);
+    tame = call.tame;
+    chosen = call.chosen;
+  }
+
+  -- one call behind a run without failure
+  pub one_behind : (old between new : D) (m : ℕ) (failed : Bool) → IsRun moment faults stops_in is_tame old between m false × NoStopWithin m (stops_in old)
+      → IsCall moment faults stops_in is_tame between new failed → IsRun moment faults stops_in is_tame old new (m + 1) failed
+  one_behind old between new m failed first call =
+      let some : 1 ≤ 1 = omega arith in run_behind old between new m 1 failed first.0 first.1 some (run_of_one between new failed call)
+
+  -- and one more without failure
+  pub well_behind : (old between new : D) (m : ℕ) → IsRun moment faults stops_in is_tame old between m false × NoStopWithin m (stops_in old)
+      → IsCall moment faults stops_in is_tame between new false → (stops_in between ≡ Some 0 → ⊥)
+      → IsRun moment faults stops_in is_tame old new (m + 1) false × NoStopWithin (m + 1) (stops_in old)
+  well_behind old between new m first call later = (
+    one_behind old between new m false first call,
+    no_stop_behind m 1 (stops_in old) first.1 (subst (NoStopWithin 1) first.0.nearer (no_stop_next (stops_in between) later)),
+  )
 
   pub writes_behind : (old between new : D) (m n : ℕ) (result : Result Unit WriteEnd) → 1 ≤ n
       → IsRun moment faults stops_in is_tame old between m false × NoStopWithin m (stops_in old)

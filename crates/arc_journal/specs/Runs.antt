@@ -4,6 +4,8 @@ use Rattle.arc_bytes.specs.Counts.{next_count}
 use Rattle.arc_disk.specs.Calls.{Counted}
 use Rattle.arc_disk.specs.declared.disk.WriteEnd.{WriteEnd}
 use Rattle.arc_disk.specs.declared.disk.WriteEnd.TheVariants.{Failed, Memory}
+use Rattle.arc_journal.specs.declared.end.JournalEnd.{JournalEnd}
+use Rattle.arc_journal.specs.declared.end.JournalEnd.TheVariants as ends
 
 -- What the clock says after so many device calls.
 abbrev pub clock_after : ℕ → ℕ → ℕ
@@ -40,3 +42,23 @@ WritesInRun moment faults stops_in is_tame n old new (Err Failed) =
     (k : ℕ) × (1 ≤ k) × (k ≤ n) × IsRun moment faults stops_in is_tame old new k true
 WritesInRun moment faults stops_in is_tame n old new (Err Memory) =
     (k : ℕ) × (1 ≤ k) × (k < n) × IsRun moment faults stops_in is_tame old new k false
+
+-- The device calls of an opening that makes n of them: all of them where it found a journal or a fault in the bytes,
+-- otherwise some of them, the last of which failed where the disk is at fault.
+abbrev pub OpensInRun : {D : Type 0} (moment faults : D → ℕ) (stops_in : D → Option ℕ) (is_tame : D → Type 0)
+    → ℕ → D → D → Option JournalEnd → Type 0
+OpensInRun moment faults stops_in is_tame n old new None =
+    IsRun moment faults stops_in is_tame old new n false × NoStopWithin n (stops_in old)
+OpensInRun moment faults stops_in is_tame n old new (Some (ends.NotOurs place)) =
+    IsRun moment faults stops_in is_tame old new n false
+OpensInRun moment faults stops_in is_tame n old new (Some (ends.Rotten place stored computed)) =
+    IsRun moment faults stops_in is_tame old new n false
+OpensInRun moment faults stops_in is_tame n old new (Some ends.Disk) =
+    (k : ℕ) × (1 ≤ k) × (k ≤ n) × IsRun moment faults stops_in is_tame old new k true
+OpensInRun moment faults stops_in is_tame n old new (Some ends.Memory) =
+    (k : ℕ) × (k ≤ n) × IsRun moment faults stops_in is_tame old new k false
+
+-- How a call ended, where it ended badly.
+abbrev pub end_of : {T : Type 0} → Result T JournalEnd → Option JournalEnd
+end_of (Ok value) = None
+end_of (Err e) = Some e

@@ -1,11 +1,13 @@
 //! Runs of device calls that write something for good.
-ghost use Rattle.std.specs.Prelude.{◌≡◌, ◌<◌, ◌≤◌, ◌^◌, List, ℕ, length, OnOk, IsErrOf};
-ghost use Rattle.arc_disk.specs.Disk.{IsUntouched, LeavesOnly, Only, Torn, written};
-ghost use Rattle.arc_journal.specs.Runs.{WritesInRun};
+ghost use Rattle.std.specs.Prelude.{◌≡◌, ◌<◌, ◌≤◌, ◌^◌, List, ℕ, length, IfOk, OnOk, IsErrOf};
+ghost use Rattle.arc_disk.specs.Disk.{IsUntouched, Keeps, LeavesOnly, Only, Torn, written};
+ghost use Rattle.arc_journal.specs.Runs.{OpensInRun, WritesInRun, end_of};
 ghost use Rattle.arc_journal.specs.Torn.{IsGateShut, TornInTurn, opened};
 
+use crate::JournalEnd;
 use arc_bytes::Failed;
 use arc_disk::{Disk, WriteEnd};
+use std::alloc::Global;
 
 /// Writes these bytes and syncs them.
 pub(crate) fn write_synced<D: Disk>(disk: &mut D, at: u64, bytes: &[u8]) -> Result<(), WriteEnd>
@@ -49,4 +51,29 @@ pub(crate) fn write_entry<D: Disk>(disk: &mut D, gate: u64, payload: &[u8]) -> R
         Err(end) => return Err(end),
     }
     write_synced(disk, gate, &[1])
+}
+
+/// Syncs, and reads the whole image.
+pub(crate) fn read_image<D: Disk>(alloc: Global, disk: &mut D) -> Result<Vec<u8>, JournalEnd>
+    ensures image { D.tells → IfOk result (λ v. v.items ≡ D.content disk.old) }
+    ensures durable { D.tells → OnOk result (Only (D.content disk.new) (D.may_leave disk.new)) }
+    ensures kept { D.tells → Keeps D.content D.may_leave disk.old disk.new }
+    ensures any_moment { D.tells → LeavesOnly D.moment D.left_since disk.old disk.new (D.may_leave disk.old) }
+    ensures calls { OpensInRun D.moment D.faults D.stops_in D.is_tame 3 disk.old disk.new (end_of result) }
+{
+    match disk.sync() {
+        Ok(()) => {}
+        Err(Failed) => return Err(JournalEnd::Disk),
+    }
+    let len = match disk.len() {
+        Ok(len) => len as usize,
+        Err(Failed) => return Err(JournalEnd::Disk),
+    };
+    let Ok(mut image) = vec![in alloc; 0u8; len] else {
+        return Err(JournalEnd::Memory);
+    };
+    match disk.read_at(0, &mut image) {
+        Ok(()) => Ok(image),
+        Err(Failed) => Err(JournalEnd::Disk),
+    }
 }
