@@ -9,3 +9,11 @@ at five (suc zero) = five.d1
 at five (suc (suc zero)) = five.d2
 at five (suc (suc (suc zero))) = five.d3
 at five (suc (suc (suc (suc node)))) = five.d4
+
+-- The five values with another one at a node.
+abbrev pub with : {T : Type 0} → Five T → ℕ → T → Five T
+with five zero value = record five { d0 = value }
+with five (suc zero) value = record five { d1 = value }
+with five (suc (suc zero)) value = record five { d2 = value }
+with five (suc (suc (suc zero))) value = record five { d3 = value }
+with five (suc (suc (suc (suc node)))) value = record five { d4 = value }

@@ -5,3 +5,5 @@ pub mod All
 pub mod InMemory
 pub mod Stream
 pub mod Five
+pub mod Numbers
+pub mod Lending

@@ -1,6 +1,8 @@
 //! Five values, one for each node.
 ghost use Rattle.std.specs.Prelude.{◌≡◌, ◌<◌};
+ghost use Rattle.std.specs.Borrow.{sem};
 ghost use Rattle.arc_bytes.specs.Five.{at};
+ghost use Rattle.arc_bytes.specs.Lending.{LendsNode};
 
 /// Five values, one for each node.
 #[derive(Debug, Drop)]
@@ -24,6 +26,20 @@ impl<T> Five<T> {
             2 => &self.d2,
             3 => &self.d3,
             _ => &self.d4,
+        }
+    }
+    /// That of this node, below 5, to be changed. The others stay.
+    pub fn get_mut(&mut self, node: u8) -> &mut T
+        requires { node < 5 }
+        ensures* writes_back { sem 𝓛 (LendsNode T.row self.entry node result) }
+        ensures value { result.now ≡ at self.old node }
+    {
+        match node {
+            0 => &mut self.d0,
+            1 => &mut self.d1,
+            2 => &mut self.d2,
+            3 => &mut self.d3,
+            _ => &mut self.d4,
         }
     }
 }
