@@ -1,2 +1,4 @@
 pub mod Moments
 pub mod RunLemmas
+pub mod Fronts
+pub mod Appending

@@ -34,9 +34,9 @@ sooner_by_one : (stop : Option ℕ) → sooner stop ≡ sooner_by 1 stop
 sooner_by_one None = refl
 sooner_by_one (Some calls) = refl
 
-pub no_stop_next : (stop : Option ℕ) → (stop ≡ Some 0 → ⊥) → NoStopWithin 1 stop
+pub no_stop_next : (stop : Option ℕ) → (stop ≡ Some 0 → false ≡ true) → NoStopWithin 1 stop
 no_stop_next None later = tt
-no_stop_next (Some zero) later = absurd (later refl)
+no_stop_next (Some zero) later = absurd (cc (later refl))
 no_stop_next (Some (suc calls)) later = omega arith
 
 module _ {D : Type 0} (moment faults : D → ℕ) (stops_in : D → Option ℕ) (is_tame : D → Type 0) where
@@ -71,6 +71,11 @@ module _ {D : Type 0} (moment faults : D → ℕ) (stops_in : D → Option ℕ) 
     chosen = call.chosen;
   }
 
+  -- one call without failure
+  pub well_first : (old new : D) → IsCall moment faults stops_in is_tame old new false → (stops_in old ≡ Some 0 → false ≡ true)
+      → IsRun moment faults stops_in is_tame old new 1 false × NoStopWithin 1 (stops_in old)
+  well_first old new call later = (run_of_one old new false call, no_stop_next (stops_in old) later)
+
   -- one call behind a run without failure
   pub one_behind : (old between new : D) (m : ℕ) (failed : Bool) → IsRun moment faults stops_in is_tame old between m false × NoStopWithin m (stops_in old)
       → IsCall moment faults stops_in is_tame between new failed → IsRun moment faults stops_in is_tame old new (m + 1) failed
@@ -79,7 +84,7 @@ module _ {D : Type 0} (moment faults : D → ℕ) (stops_in : D → Option ℕ) 
 
   -- and one more without failure
   pub well_behind : (old between new : D) (m : ℕ) → IsRun moment faults stops_in is_tame old between m false × NoStopWithin m (stops_in old)
-      → IsCall moment faults stops_in is_tame between new false → (stops_in between ≡ Some 0 → ⊥)
+      → IsCall moment faults stops_in is_tame between new false → (stops_in between ≡ Some 0 → false ≡ true)
       → IsRun moment faults stops_in is_tame old new (m + 1) false × NoStopWithin (m + 1) (stops_in old)
   well_behind old between new m first call later = (
     one_behind old between new m false first call,

@@ -1,15 +1,15 @@
 -- What the bytes of an image say: its entries, their records, and the first fault.
-use Rattle.std.specs.Prelude.{ℕ, zero, suc, ◌≡◌, ◌+◌, ◌==◌, nat_lt, nat_le, ◌&&◌, ◌||◌, not, Bool, true, false, if◌then◌else◌, List, [], ◌∷◌, ◌++◌, length, take, drop, map, Option, Some, None}
+use Rattle.std.specs.Prelude.{ℕ, zero, suc, ◌≡◌, ◌≤◌, ◌<◌, ◌+◌, ◌==◌, nat_lt, nat_le, ◌&&◌, ◌||◌, not, Bool, true, false, if◌then◌else◌, List, [], ◌∷◌, ◌++◌, length, take, drop, map, Option, Some, None}
 use Rattle.std.specs.Int.{w32, from_be_bytes}
 use Rattle.std.specs.List.{filter_map}
 use Rattle.std.specs.Str.{bytes_eq}
 use Rattle.sha2.specs.Sha256.{sha256}
 use Rattle.arc_command.specs.declared.record.Record.{Record}
 use Rattle.arc_command.specs.declared.record.Record.TheVariants.{Opened, Promised, Voted, Closed}
-use Rattle.arc_journal.specs.Layout.{signature, entry_limit, IsImageOf}
+use Rattle.arc_journal.specs.Layout.{signature, head, sealed, entries, entry_limit, IsImageOf}
 use Rattle.arc_journal.specs.Stub.{record_bytes, record_of}
 use Rattle.arc_journal.specs.declared.end.JournalEnd.{JournalEnd}
-use Rattle.arc_journal.specs.declared.end.JournalEnd.TheVariants.{NotOurs, Rotten}
+use Rattle.arc_journal.specs.declared.end.JournalEnd.TheVariants.{Disk, NotOurs, Rotten, Memory}
 
 -- An entry of an image: the place of its gate, and the bytes behind the gate.
 pub record Entry : Type 0 where
@@ -107,6 +107,14 @@ head_fault node image =
 unfoldable pub first_fault : ℕ → List ℕ → Option JournalEnd
 first_fault node image = first_of (head_fault node image) (fault_in (slots_in image) 0 (entries_of image))
 
+-- How a reading of these bytes ended has its cause in them, and yields to want of memory alone.
+abbrev pub IsCausedBy : Option JournalEnd → Option JournalEnd → Type 0
+IsCausedBy None fault = fault ≡ None
+IsCausedBy (Some Disk) fault = fault ≡ Some Disk
+IsCausedBy (Some (NotOurs place)) fault = fault ≡ Some (NotOurs place)
+IsCausedBy (Some (Rotten place stored computed)) fault = fault ≡ Some (Rotten place stored computed)
+IsCausedBy (Some Memory) fault = Unit {0}
+
 -- A record that a journal takes: its spelling is read again and is short enough, and it closes no slot beyond the list.
 pub record IsKept (slots : ℕ) (r : Record) : Type 0 where
   pub some : 1 ≤ length (record_bytes r)
@@ -126,3 +134,9 @@ pub record IsJournalOf (node slots : ℕ) (records : List Record) (image : List 
   pub within : length records ≤ entry_limit slots
   pub kept : AreKept slots records
   pub bytes : IsImageOf node slots (map record_bytes records) image
+
+-- An entry with this record stands at the front of these bytes, behind its gate, and a gate behind it.
+pub record IsEntry (slots : ℕ) (r : Record) (bytes : List ℕ) : Type 0 where
+  pub kept : IsKept slots r
+  pub front : bytes ≡ sealed (record_bytes r) ++ drop (length (record_bytes r) + 36) bytes
+  pub within : length (record_bytes r) + 36 < length bytes

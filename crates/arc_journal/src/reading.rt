@@ -1,0 +1,98 @@
+//! What the bytes of an image say.
+ghost use Rattle.std.specs.Prelude.{◌≡◌, ◌+◌, ◌*◌, ◌≤◌, ◌<◌, ℕ, true, false, length, map, take, vec_len, MatchOption, IfOk, OnOk};
+ghost use Rattle.arc_journal.specs.Image.{AreKept, IsCausedBy, IsEntry, body_of, common, entries_of, entry_fault, fault_in, first_fault, head_fault, is_below, is_whole, slots_in};
+ghost use Rattle.arc_journal.specs.Layout.{entries, entry_limit, head, signature};
+ghost use Rattle.arc_journal.specs.Runs.{end_of};
+ghost use Rattle.arc_journal.specs.Stub.{record_bytes};
+
+use crate::JournalEnd;
+use crate::stub::{CommandEnd, decode_record};
+use arc_bytes::take_u32;
+use arc_command::Record;
+use sha2::{Digest, Sha256};
+use std::alloc::Global;
+
+/// The length of the head, in bytes.
+pub(crate) const HEAD_LEN: usize = 16;
+
+/// The greatest `max_slots`.
+pub(crate) const MOST_SLOTS: u32 = 16_384;
+
+/// The bytes with which each journal of this node begins.
+pub(crate) fn signature(node: u8) -> [u8; 12]
+    ensures { result ≡ signature node }
+{
+    [b'A', b'R', b'C', b'J', b'R', b'N', b'L', 1, node, 0, 0, 0]
+}
+
+/// How many entries a journal takes.
+pub(crate) fn entry_limit(max_slots: u32) -> u32
+    requires { max_slots ≤ 16384 }
+    ensures { result ≡ entry_limit max_slots }
+{
+    16 * max_slots + 64
+}
+
+/// How many bytes two slices have in common at their front.
+fn common(left: &[u8], right: &[u8]) -> usize
+    ensures { result ≡ common left.now right.now }
+{
+    for i in 0..left.len() {
+        if i == right.len() || left[i] != right[i] {
+            return i;
+        }
+    }
+    left.len()
+}
+
+/// The greatest length of the list, as the head has it.
+#[tactic(auto, unfolding(crate::specs::Image::head_fault, arc_bytes::specs::Numbers::number_at))]
+fn read_head(image: &[u8], node: u8) -> Result<u32, JournalEnd>
+    ensures fault { end_of result ≡ head_fault node image.now }
+    ensures slots { IfOk result (λ n. n ≡ slots_in image.now) }
+    ensures range { IfOk result (λ n. (1 ≤ n) × (n ≤ 16384)) }
+    ensures head { IfOk result (λ n. take 16 image.now ≡ head node n) }
+    ensures gate { OnOk result (16 < length image.now) }
+{
+    let same = common(&signature(node), image);
+    if same < 12 {
+        return Err(JournalEnd::NotOurs { place: same as u64 });
+    }
+    let Ok((max_slots, _)) = take_u32(image, 12) else {
+        let place = image.len() as u64;
+        return Err(JournalEnd::NotOurs { place });
+    };
+    if max_slots == 0 || max_slots > MOST_SLOTS {
+        return Err(JournalEnd::NotOurs { place: 12 });
+    }
+    if image.len() == HEAD_LEN {
+        return Err(JournalEnd::NotOurs { place: 16 });
+    }
+    Ok(max_slots)
+}
+
+/// The body behind a gate, where its length is in its range and the whole entry and a gate behind it are there.
+#[tactic(auto, unfolding(arc_bytes::specs::Numbers::number_at))]
+fn whole_body(bytes: &[u8]) -> Option<&[u8]>
+    ensures { MatchOption result (is_whole bytes.now ≡ false)
+        (λ body. (is_whole bytes.now ≡ true) × (body.now ≡ body_of bytes.now)) }
+{
+    let Ok((len, _)) = take_u32(bytes, 0) else {
+        return None;
+    };
+    let len = len as usize;
+    if len == 0 || len > 1037 || bytes.len() <= len + 36 {
+        return None;
+    }
+    Some(&bytes[4..4 + len])
+}
+
+/// Whether the record closes no slot from this one on.
+pub(crate) fn is_below(record: &Record, max_slots: u32) -> bool
+    ensures { result ≡ is_below max_slots record.now }
+{
+    match record {
+        Record::Closed { slot, .. } => *slot < max_slots,
+        _ => true,
+    }
+}
