@@ -2,3 +2,4 @@ pub mod Moments
 pub mod RunLemmas
 pub mod Fronts
 pub mod Appending
+pub mod Commons

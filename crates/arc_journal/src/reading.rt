@@ -38,7 +38,10 @@ fn common(left: &[u8], right: &[u8]) -> usize
     ensures { result ≡ common left.now right.now }
 {
     for i in 0..left.len() {
-        if i == right.len() || left[i] != right[i] {
+        if i == right.len() {
+            return i;
+        }
+        if left[i] != right[i] {
             return i;
         }
     }
@@ -88,11 +91,52 @@ fn whole_body(bytes: &[u8]) -> Option<&[u8]>
 }
 
 /// Whether the record closes no slot from this one on.
-pub(crate) fn is_below(record: &Record, max_slots: u32) -> bool
-    ensures { result ≡ is_below max_slots record.now }
+pub(crate) fn is_below(entry: &Record, max_slots: u32) -> bool
+    ensures { result ≡ is_below max_slots entry.now }
 {
-    match record {
+    match entry {
         Record::Closed { slot, .. } => *slot < max_slots,
         _ => true,
     }
+}
+
+/// The record of an entry whose gate is at this place, and before which so many entries stand.
+fn read_entry(
+    alloc: Global,
+    bytes: &[u8],
+    place: usize,
+    max_slots: u32,
+    count: u32,
+) -> Result<Record, JournalEnd>
+    requires { max_slots ≤ 16384 }
+    ensures fault { IsCausedBy (end_of result) (entry_fault max_slots count (record { place = place; bytes = bytes.now })) }
+    ensures entry { IfOk result (λ r. IsEntry max_slots r bytes.now) }
+    ensures room { OnOk result (count < entry_limit max_slots) }
+{
+    let place = place as u64;
+    let Some(body) = whole_body(bytes) else {
+        return Err(JournalEnd::NotOurs { place });
+    };
+    let mut stored = [0u8; 32];
+    stored.copy_from_slice(&bytes[4 + body.len()..36 + body.len()]);
+    let computed = Sha256::digest(body);
+    if stored != computed {
+        return Err(JournalEnd::Rotten {
+            place,
+            stored,
+            computed,
+        });
+    }
+    let entry = match decode_record(alloc, body) {
+        Ok(entry) => entry,
+        Err(CommandEnd::BadCommand { .. }) => return Err(JournalEnd::NotOurs { place }),
+        Err(CommandEnd::Memory) => return Err(JournalEnd::Memory),
+    };
+    if !is_below(&entry, max_slots) {
+        return Err(JournalEnd::NotOurs { place });
+    }
+    if count >= entry_limit(max_slots) {
+        return Err(JournalEnd::NotOurs { place });
+    }
+    Ok(entry)
 }
