@@ -8,7 +8,9 @@
 //! What the caller owes: an operation in a command is valid, that is within its limits.
 #![tactic(auto)]
 
+mod bytes;
 mod command;
+mod entries;
 mod equality;
 mod list;
 mod message;
@@ -17,7 +19,9 @@ mod reply;
 mod text;
 
 pub use arc_ids::{CommandId, ControlId, PanelId, RuleId};
+pub use bytes::CommandEnd;
 pub use command::{Batch, Command, Entry, MAX_MS, Op, is_valid};
+pub use entries::{closed_len, promise, top_vote};
 pub use equality::Equals;
 pub use list::List;
 pub use message::{Answer, Message};
