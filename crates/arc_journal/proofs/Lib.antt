@@ -3,3 +3,5 @@ pub mod RunLemmas
 pub mod Fronts
 pub mod Appending
 pub mod Commons
+pub mod Entries
+pub mod Walking

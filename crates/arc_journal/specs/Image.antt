@@ -7,7 +7,8 @@ use Rattle.sha2.specs.Sha256.{sha256}
 use Rattle.arc_command.specs.declared.record.Record.{Record}
 use Rattle.arc_command.specs.declared.record.Record.TheVariants.{Opened, Promised, Voted, Closed}
 use Rattle.arc_journal.specs.Layout.{signature, head, sealed, entries, entry_limit, IsImageOf}
-use Rattle.arc_journal.specs.Stub.{record_bytes, record_of}
+use Rattle.arc_command.specs.Spelling.{record_bytes}
+use Rattle.arc_journal.specs.Bodies.{record_of}
 use Rattle.arc_journal.specs.declared.end.JournalEnd.{JournalEnd}
 use Rattle.arc_journal.specs.declared.end.JournalEnd.TheVariants.{Disk, NotOurs, Rotten, Memory}
 
@@ -21,8 +22,8 @@ abbrev pub body_len : List ℕ → ℕ
 body_len bytes = from_be_bytes w32 (take 4 bytes)
 
 -- The body of an entry.
-abbrev pub body_of : List ℕ → List ℕ
-body_of bytes = take (body_len bytes) (drop 4 bytes)
+abbrev pub body_in : List ℕ → List ℕ
+body_in bytes = take (body_len bytes) (drop 4 bytes)
 
 -- The digest that stands behind the body.
 abbrev pub stored_digest : List ℕ → List ℕ
@@ -46,7 +47,7 @@ entries_of image = entries_from 0 16 (drop 16 image)
 
 -- The records of an image.
 unfoldable pub records_of : List ℕ → List Record
-records_of image = filter_map (λ entry. record_of (body_of entry.bytes)) (entries_of image)
+records_of image = filter_map (λ entry. record_of (body_in entry.bytes)) (entries_of image)
 
 -- The greatest length of the list that the head names.
 abbrev pub slots_in : List ℕ → ℕ
@@ -72,9 +73,9 @@ is_whole bytes = nat_lt 0 (body_len bytes) && nat_le (body_len bytes) 1037 && na
 abbrev pub entry_fault : ℕ → ℕ → Entry → Option JournalEnd
 entry_fault slots count entry =
     if not (is_whole entry.bytes) then Some (NotOurs entry.place)
-    else if not (bytes_eq (stored_digest entry.bytes) (sha256 (body_of entry.bytes)))
-    then Some (Rotten entry.place (stored_digest entry.bytes) (sha256 (body_of entry.bytes)))
-    else if not (is_below_or_none slots (record_of (body_of entry.bytes))) then Some (NotOurs entry.place)
+    else if not (bytes_eq (stored_digest entry.bytes) (sha256 (body_in entry.bytes)))
+    then Some (Rotten entry.place (stored_digest entry.bytes) (sha256 (body_in entry.bytes)))
+    else if not (is_below_or_none slots (record_of (body_in entry.bytes))) then Some (NotOurs entry.place)
     else if nat_le (entry_limit slots) count then Some (NotOurs entry.place)
     else None
 
@@ -140,3 +141,10 @@ pub record IsEntry (slots : ℕ) (r : Record) (bytes : List ℕ) : Type 0 where
   pub kept : IsKept slots r
   pub front : bytes ≡ sealed (record_bytes r) ++ drop (length (record_bytes r) + 36) bytes
   pub within : length (record_bytes r) + 36 < length bytes
+
+-- Of an image the head and the entries with these records were read, up to the gate at this place.
+pub record IsReadTo (slots : ℕ) (records : List Record) (place : ℕ) (image : List ℕ) : Type 0 where
+  pub front : take place image ≡ take 16 image ++ entries (map record_bytes records)
+  pub kept : AreKept slots records
+  pub room : length records ≤ entry_limit slots
+  pub within : place < length image

@@ -1,5 +1,5 @@
 pub mod Runs
 pub mod Layout
 pub mod Torn
-pub mod Stub
+pub mod Bodies
 pub mod Image

@@ -1,12 +1,12 @@
 //! What the bytes of an image say.
-ghost use Rattle.std.specs.Prelude.{◌≡◌, ◌+◌, ◌*◌, ◌≤◌, ◌<◌, ℕ, true, false, length, map, take, vec_len, MatchOption, IfOk, OnOk};
-ghost use Rattle.arc_journal.specs.Image.{AreKept, IsCausedBy, IsEntry, body_of, common, entries_of, entry_fault, fault_in, first_fault, head_fault, is_below, is_whole, slots_in};
+ghost use Rattle.std.specs.Prelude.{◌≡◌, ◌+◌, ◌*◌, ◌≤◌, ◌<◌, ℕ, true, false, length, map, take, vec_len, slice_index, ◌≢◌, MatchOption, IfOk, OnOk};
+ghost use Rattle.arc_journal.specs.Image.{AreKept, IsCausedBy, IsEntry, IsReadTo, body_in, common, entries_of, entry_fault, fault_in, first_fault, head_fault, is_below, is_whole, slots_in};
 ghost use Rattle.arc_journal.specs.Layout.{entries, entry_limit, head, signature};
 ghost use Rattle.arc_journal.specs.Runs.{end_of};
-ghost use Rattle.arc_journal.specs.Stub.{record_bytes};
+ghost use Rattle.arc_command.specs.Spelling.{record_bytes};
 
 use crate::JournalEnd;
-use crate::stub::{CommandEnd, decode_record};
+use crate::bodies::{BodyEnd, read_body};
 use arc_bytes::take_u32;
 use arc_command::Record;
 use sha2::{Digest, Sha256};
@@ -14,6 +14,9 @@ use std::alloc::Global;
 
 /// The length of the head, in bytes.
 pub(crate) const HEAD_LEN: usize = 16;
+
+/// The byte of an open gate.
+pub(crate) const OPEN: u8 = 1;
 
 /// The greatest `max_slots`.
 pub(crate) const MOST_SLOTS: u32 = 16_384;
@@ -78,7 +81,7 @@ fn read_head(image: &[u8], node: u8) -> Result<u32, JournalEnd>
 #[tactic(auto, unfolding(arc_bytes::specs::Numbers::number_at))]
 fn whole_body(bytes: &[u8]) -> Option<&[u8]>
     ensures { MatchOption result (is_whole bytes.now ≡ false)
-        (λ body. (is_whole bytes.now ≡ true) × (body.now ≡ body_of bytes.now)) }
+        (λ body. (is_whole bytes.now ≡ true) × (body.now ≡ body_in bytes.now)) }
 {
     let Ok((len, _)) = take_u32(bytes, 0) else {
         return None;
@@ -100,17 +103,19 @@ pub(crate) fn is_below(entry: &Record, max_slots: u32) -> bool
     }
 }
 
-/// The record of an entry whose gate is at this place, and before which so many entries stand.
+/// The record of an entry whose gate is at this place, and before which so many entries stand; and how many bytes the
+/// entry has behind its gate.
 fn read_entry(
     alloc: Global,
     bytes: &[u8],
     place: usize,
     max_slots: u32,
     count: u32,
-) -> Result<Record, JournalEnd>
+) -> Result<(Record, usize), JournalEnd>
     requires { max_slots ≤ 16384 }
     ensures fault { IsCausedBy (end_of result) (entry_fault max_slots count (record { place = place; bytes = bytes.now })) }
-    ensures entry { IfOk result (λ r. IsEntry max_slots r bytes.now) }
+    ensures entry { IfOk result (λ r. IsEntry max_slots r.0 bytes.now) }
+    ensures len { IfOk result (λ r. r.1 ≡ length (record_bytes r.0) + 36) }
     ensures room { OnOk result (count < entry_limit max_slots) }
 {
     let place = place as u64;
@@ -127,10 +132,10 @@ fn read_entry(
             computed,
         });
     }
-    let entry = match decode_record(alloc, body) {
+    let entry = match read_body(alloc, body) {
         Ok(entry) => entry,
-        Err(CommandEnd::BadCommand { .. }) => return Err(JournalEnd::NotOurs { place }),
-        Err(CommandEnd::Memory) => return Err(JournalEnd::Memory),
+        Err(BodyEnd::NoRecord) => return Err(JournalEnd::NotOurs { place }),
+        Err(BodyEnd::Memory) => return Err(JournalEnd::Memory),
     };
     if !is_below(&entry, max_slots) {
         return Err(JournalEnd::NotOurs { place });
@@ -138,5 +143,33 @@ fn read_entry(
     if count >= entry_limit(max_slots) {
         return Err(JournalEnd::NotOurs { place });
     }
-    Ok(entry)
+    Ok((entry, body.len() + 36))
+}
+
+/// The records of an image, and the place of the gate that ends them.
+fn read_entries(
+    alloc: Global,
+    image: &[u8],
+    max_slots: u32,
+) -> Result<(Vec<Record>, usize), JournalEnd>
+    requires gate { 16 < length image.now }
+    requires most { max_slots ≤ 16384 }
+    ensures fault { IsCausedBy (end_of result) (fault_in max_slots 0 (entries_of image.now)) }
+    ensures read { IfOk result (λ r. IsReadTo max_slots r.0.items r.1 image.now) }
+    ensures closed { IfOk result (λ r. slice_index image.now r.1 ≢ 1) }
+{
+    let mut records = Vec::new(alloc);
+    let mut place = HEAD_LEN;
+    while image[place] == OPEN {
+        let count = records.len() as u32;
+        let (entry, len) = match read_entry(alloc, &image[place + 1..], place, max_slots, count) {
+            Ok(entry) => entry,
+            Err(end) => return Err(end),
+        };
+        if records.push(entry).is_err() {
+            return Err(JournalEnd::Memory);
+        }
+        place += 1 + len;
+    }
+    Ok((records, place))
 }

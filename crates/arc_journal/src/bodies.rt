@@ -1,0 +1,38 @@
+//! The bodies of entries: the spellings of records.
+ghost use Rattle.std.specs.Prelude.{◌≡◌, ◌≤◌, ◌++◌, length, Some, None, IfOk, OnOk, IsErrOf};
+ghost use Rattle.arc_command.specs.Spelling.{record_bytes};
+ghost use Rattle.arc_command.specs.Valid.{IsValidRecord};
+ghost use Rattle.arc_journal.specs.Bodies.{record_of};
+
+use arc_bytes::Memory;
+use arc_command::Record;
+use std::alloc::Global;
+
+/// Why a body was not read.
+#[derive(Clone, Copy, Debug, PartialEq, Eq)]
+pub(crate) enum BodyEnd {
+    /// It spells no record.
+    NoRecord,
+    /// There was no memory left.
+    Memory,
+}
+
+/// The record that a body spells.
+pub(crate) fn read_body(_alloc: Global, body: &[u8]) -> Result<Record, BodyEnd>
+    ensures read { IfOk result (λ r. record_of body.now ≡ Some r) }
+    ensures spelled { IfOk result (λ r. body.now ≡ record_bytes r) }
+    ensures none { IsErrOf result BodyEnd.NoRecord → record_of body.now ≡ None }
+{
+    Err(BodyEnd::Memory)
+}
+
+/// Appends the body of an entry.
+pub(crate) fn write_body(entry: &Record, out: &mut Vec<u8>) -> Result<(), Memory>
+    requires { IsValidRecord entry.now }
+    ensures appended { OnOk result (out.new.items ≡ out.old.items ++ record_bytes entry.now) }
+    ensures some { OnOk result (1 ≤ length (record_bytes entry.now)) }
+    ensures short { OnOk result (length (record_bytes entry.now) ≤ 1037) }
+    ensures reads { OnOk result (record_of (record_bytes entry.now) ≡ Some entry.now) }
+{
+    Err(Memory)
+}
