@@ -5,3 +5,4 @@ pub mod Appending
 pub mod Commons
 pub mod Entries
 pub mod Walking
+pub mod Found

@@ -1,12 +1,14 @@
 -- One entry more was read.
-use Rattle.std.proofs.Common.{◌≡◌, ◌≢◌, ℕ, zero, suc, ◌+◌, ◌≤◌, ◌<◌, None, List, [], ◌∷◌, ◌++◌, length, get_or, take, drop, map, refl, sym, ◌∙◌, ap, subst, arith, append_assoc, length-append, length-drop, add-zero}
+use Rattle.std.proofs.Common.{◌≡◌, ◌≢◌, ℕ, zero, suc, ◌+◌, ◌≤◌, ◌<◌, Option, None, Some, List, [], ◌∷◌, ◌++◌, length, get_or, take, drop, map, refl, sym, ◌∙◌, ap, subst, arith, append_assoc, length-append, length-drop, take-append-drop, add-zero}
 use Rattle.std.proofs.Math.Seq.{take-add}
 use Rattle.std.proofs.lemmas.List.{take_at, drop_at, drop_more, drop-drop, length-take-le}
 use Rattle.std.proofs.lemmas.Bool.Decides.{nat_tests}
 use Rattle.arc_command.specs.declared.record.Record.{Record}
 use Rattle.arc_command.specs.Spelling.{record_bytes}
-use Rattle.arc_journal.specs.Layout.{sealed, entries, entry_limit}
-use Rattle.arc_journal.specs.Image.{Entry, entry_len, entries_from, entry_fault, first_of, fault_in, AreKept, IsKept, IsEntry, IsReadTo}
+use Rattle.arc_journal.specs.Layout.{head, sealed, entries, entry_limit}
+use Rattle.arc_journal.specs.declared.end.JournalEnd.{JournalEnd}
+use Rattle.arc_journal.specs.declared.end.JournalEnd.TheVariants.{Disk, NotOurs, Rotten, Memory}
+use Rattle.arc_journal.specs.Image.{Entry, entry_len, entries_from, entry_fault, first_of, fault_in, IsCausedBy, AreKept, IsKept, IsEntry, IsReadTo, IsJournalOf}
 use Rattle.arc_journal.proofs.Appending.{entries-push}
 use Rattle.arc_journal.proofs.Entries.{length-sealed, body_len-sealed}
 
@@ -43,6 +45,13 @@ kept_push slots (s ∷ records) r (first, others) one = (first, kept_push slots 
 pub spelled_push : (records : List Record) (r : Record) → entries (map record_bytes (records ++ r ∷ [])) ≡ entries (map record_bytes records) ++ 1 ∷ sealed (record_bytes r)
 spelled_push records r = ap entries (map-push records r) ∙ entries-push (map record_bytes records) (record_bytes r)
 
+-- the first of two faults has the cause of the first
+caused_first : (e : JournalEnd) (first later : Option JournalEnd) → IsCausedBy (Some e) first → IsCausedBy (Some e) (first_of first later)
+caused_first Disk first later is = ap (λ f. first_of f later) is
+caused_first (NotOurs place) first later is = ap (λ f. first_of f later) is
+caused_first (Rotten place stored computed) first later is = ap (λ f. first_of f later) is
+caused_first Memory first later is = tt
+
 module _ (slots : ℕ) (records : List Record) (place : ℕ) (image : List ℕ) (so_far : IsReadTo slots records place image) where
   gate_there : drop place image ≡ get_or image place 0 ∷ drop (place + 1) image
   gate_there = drop_more image place 0 so_far.within
@@ -51,6 +60,10 @@ module _ (slots : ℕ) (records : List Record) (place : ℕ) (image : List ℕ) 
   nothing_more closed count =
       ap (λ (l : List ℕ). fault_in slots count (entries_from 0 place l)) gate_there
       ∙ ap (fault_in slots count) (at_closed place (get_or image place 0) (drop (place + 1) image) closed)
+
+  -- and then there is no fault
+  pub ends_here : (whole : Option JournalEnd) → get_or image place 0 ≢ 1 → whole ≡ fault_in slots (length records) (entries_from 0 place (drop place image)) → whole ≡ None
+  ends_here whole closed faults = faults ∙ nothing_more closed (length records)
 
   module _ (is_open : get_or image place 0 ≡ 1) where
     pub open_there : drop place image ≡ 1 ∷ drop (place + 1) image
@@ -62,6 +75,16 @@ module _ (slots : ℕ) (records : List Record) (place : ℕ) (image : List ℕ) 
         (fault_in slots (count + 1) (entries_from 0 (place + 1 + entry_len (drop (place + 1) image)) (drop (entry_len (drop (place + 1) image)) (drop (place + 1) image))))
     faults_here count =
         ap (λ (l : List ℕ). fault_in slots count (entries_from 0 place l)) open_there ∙ ap (fault_in slots count) (at_open place (drop (place + 1) image))
+
+    -- a fault of the entry is the first
+    pub fails_here : (whole : Option JournalEnd) (e : JournalEnd) (count : ℕ) (rest : List ℕ) → count ≡ length records → rest ≡ drop (place + 1) image
+        → whole ≡ fault_in slots (length records) (entries_from 0 place (drop place image))
+        → IsCausedBy (Some e) (entry_fault slots count (record { place = place; bytes = rest })) → IsCausedBy (Some e) whole
+    fails_here whole e count rest is_count is_rest faults caused =
+        let here : IsCausedBy (Some e) (entry_fault slots (length records) (record { place = place; bytes = drop (place + 1) image })) =
+        subst (λ (n : ℕ). IsCausedBy (Some e) (entry_fault slots n (record { place = place; bytes = drop (place + 1) image }))) is_count
+        (subst (λ (l : List ℕ). IsCausedBy (Some e) (entry_fault slots count (record { place = place; bytes = l }))) is_rest caused) in
+        subst (IsCausedBy (Some e)) (sym (faults ∙ faults_here (length records))) (caused_first e _ _ here)
 
     module _ (r : Record) (len : ℕ) (is_len : len ≡ length (record_bytes r) + 36) (entry : IsEntry slots r (drop (place + 1) image)) where
       abbrev bytes : List ℕ
@@ -107,3 +130,45 @@ module _ (slots : ℕ) (records : List Record) (place : ℕ) (image : List ℕ) 
           ∙ ap (λ (n : ℕ). fault_in slots (count + 1) (entries_from 0 (place + 1 + n) (drop n bytes))) len_there
           ∙ ap (λ (l : List ℕ). fault_in slots (count + 1) (entries_from 0 (place + 1 + len) l)) (drop-drop len (place + 1) image)
           ∙ ap (λ (n : ℕ). fault_in slots (count + 1) (entries_from 0 n (drop n image))) later
+
+-- The next entry was read, and so it goes on.
+pub record GoesOn (slots : ℕ) (items : List Record) (place : ℕ) (image : List ℕ) (whole : Option JournalEnd) : Type 0 where
+  pub so_far : IsReadTo slots items place image
+  pub faults : whole ≡ fault_in slots (length items) (entries_from 0 place (drop place image))
+
+pub goes_on : (slots : ℕ) (records items : List Record) (place len count : ℕ) (image rest : List ℕ) (r : Record) (whole : Option JournalEnd)
+    → IsReadTo slots records place image → get_or image place 0 ≡ 1
+    → whole ≡ fault_in slots (length records) (entries_from 0 place (drop place image))
+    → count ≡ length records → rest ≡ drop (place + 1) image → items ≡ records ++ r ∷ [] → len ≡ length (record_bytes r) + 36
+    → IsEntry slots r rest → count < entry_limit slots → entry_fault slots count (record { place = place; bytes = rest }) ≡ None
+    → GoesOn slots items (place + (1 + len)) image whole
+goes_on slots records items place len count image rest r whole so_far is_open faults is_count is_rest is_items is_len entry room none =
+    let here : IsEntry slots r (drop (place + 1) image) = subst (IsEntry slots r) is_rest entry in
+    let below : length records < entry_limit slots = omega (arith, is_count, room) in
+    let faultless : entry_fault slots (length records) (record { place = place; bytes = drop (place + 1) image }) ≡ None =
+    subst (λ (n : ℕ). entry_fault slots n (record { place = place; bytes = drop (place + 1) image }) ≡ None) is_count
+    (subst (λ (l : List ℕ). entry_fault slots count (record { place = place; bytes = l }) ≡ None) is_rest none) in
+    let longer : length records + 1 ≡ length items = sym (ap length is_items ∙ length-push records r) in
+    record {
+      so_far = subst (λ (l : List Record). IsReadTo slots l (place + (1 + len)) image) (sym is_items) (read_more slots records place image so_far is_open r len is_len here below);
+      faults = faults ∙ faults_behind slots records place image so_far is_open r len is_len here (length records) faultless
+        ∙ ap (λ (n : ℕ). fault_in slots n (entries_from 0 (place + (1 + len)) (drop (place + (1 + len)) image))) longer;
+    }
+
+pub is_journal : (node slots : ℕ) (records : List Record) (place : ℕ) (image : List ℕ) → 1 ≤ slots → slots ≤ 16384 → take 16 image ≡ head node slots
+    → IsReadTo slots records place image → get_or image place 0 ≢ 1 → IsJournalOf node slots records image
+is_journal node slots records place image some most is_head so_far closed = record {
+  some = some;
+  most = most;
+  within = so_far.room;
+  kept = so_far.kept;
+  bytes = record {
+    gate = get_or image place 0;
+    ignored = drop (place + 1) image;
+    closed = closed;
+    bytes =
+      sym (take-append-drop place image)
+      ∙ ap (λ (l : List ℕ). l ++ drop place image) (so_far.front ∙ ap (λ (l : List ℕ). l ++ entries (map record_bytes records)) is_head)
+      ∙ ap (λ (l : List ℕ). (head node slots ++ entries (map record_bytes records)) ++ l) (gate_there slots records place image so_far);
+  };
+}

@@ -59,6 +59,6 @@ OpensInRun moment faults stops_in is_tame n old new (Some ends.Memory) =
     (k : ℕ) × (k ≤ n) × IsRun moment faults stops_in is_tame old new k false
 
 -- How a call ended, where it ended badly.
-abbrev pub end_of : {T : Type 0} → Result T JournalEnd → Option JournalEnd
-end_of (Ok value) = None
-end_of (Err e) = Some e
+abbrev pub ending_of : {T : Type 0} → Result T JournalEnd → Option JournalEnd
+ending_of (Ok value) = None
+ending_of (Err e) = Some e

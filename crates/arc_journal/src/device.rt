@@ -1,7 +1,7 @@
 //! Runs of device calls that write something for good.
 ghost use Rattle.std.specs.Prelude.{◌≡◌, ◌<◌, ◌≤◌, ◌^◌, List, ℕ, length, IfOk, OnOk, IsErrOf};
 ghost use Rattle.arc_disk.specs.Disk.{IsUntouched, Keeps, LeavesOnly, Only, Torn, written};
-ghost use Rattle.arc_journal.specs.Runs.{OpensInRun, WritesInRun, end_of};
+ghost use Rattle.arc_journal.specs.Runs.{OpensInRun, WritesInRun, ending_of};
 ghost use Rattle.arc_journal.specs.Torn.{IsGateShut, TornInTurn, opened};
 
 use crate::JournalEnd;
@@ -11,11 +11,10 @@ use std::alloc::Global;
 
 /// Writes these bytes and syncs them.
 pub(crate) fn write_synced<D: Disk>(disk: &mut D, at: u64, bytes: &[u8]) -> Result<(), WriteEnd>
-    requires within { D.tells → at ≤ length (D.content disk.old) }
-    requires durable { D.tells → Only (D.content disk.old) (D.may_leave disk.old) }
+    requires { D.tells → at ≤ length (D.content disk.old) }
     ensures written { D.tells → OnOk result (D.content disk.new ≡ written (D.content disk.old) at bytes.now) }
     ensures durable { D.tells → OnOk result (Only (D.content disk.new) (D.may_leave disk.new)) }
-    ensures any_moment { D.tells → LeavesOnly D.moment D.left_since disk.old disk.new
+    ensures any_moment { D.tells → Only (D.content disk.old) (D.may_leave disk.old) → LeavesOnly D.moment D.left_since disk.old disk.new
         (Torn at (length bytes.now) (D.content disk.old)) }
     ensures memory { D.tells → IsErrOf result WriteEnd.Memory →
         IsUntouched D.content D.may_leave disk.old disk.new }
@@ -59,7 +58,7 @@ pub(crate) fn read_image<D: Disk>(alloc: Global, disk: &mut D) -> Result<Vec<u8>
     ensures durable { D.tells → OnOk result (Only (D.content disk.new) (D.may_leave disk.new)) }
     ensures kept { D.tells → Keeps D.content D.may_leave disk.old disk.new }
     ensures any_moment { D.tells → LeavesOnly D.moment D.left_since disk.old disk.new (D.may_leave disk.old) }
-    ensures calls { OpensInRun D.moment D.faults D.stops_in D.is_tame 3 disk.old disk.new (end_of result) }
+    ensures calls { OpensInRun D.moment D.faults D.stops_in D.is_tame 3 disk.old disk.new (ending_of result) }
 {
     match disk.sync() {
         Ok(()) => {}

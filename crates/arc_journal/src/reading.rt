@@ -1,13 +1,13 @@
 //! What the bytes of an image say.
-ghost use Rattle.std.specs.Prelude.{◌≡◌, ◌+◌, ◌*◌, ◌≤◌, ◌<◌, ℕ, true, false, length, map, take, vec_len, slice_index, ◌≢◌, MatchOption, IfOk, OnOk};
-ghost use Rattle.arc_journal.specs.Image.{AreKept, IsCausedBy, IsEntry, IsReadTo, body_in, common, entries_of, entry_fault, fault_in, first_fault, head_fault, is_below, is_whole, slots_in};
+ghost use Rattle.std.specs.Prelude.{◌≡◌, ◌++◌, ◌∷◌, [], ◌+◌, ◌*◌, ◌≤◌, ◌<◌, ℕ, true, false, length, map, take, vec_len, slice_index, ◌≢◌, MatchOption, IfOk, OnOk};
+ghost use Rattle.arc_journal.specs.Image.{AreKept, IsCausedBy, IsEntry, IsJournalOf, IsReadTo, body_in, common, entries_of, entry_fault, fault_in, first_fault, head_fault, is_below, is_whole, slots_in};
 ghost use Rattle.arc_journal.specs.Layout.{entries, entry_limit, head, signature};
-ghost use Rattle.arc_journal.specs.Runs.{end_of};
+ghost use Rattle.arc_journal.specs.Runs.{ending_of};
 ghost use Rattle.arc_command.specs.Spelling.{record_bytes};
 
 use crate::JournalEnd;
 use crate::bodies::{BodyEnd, read_body};
-use arc_bytes::take_u32;
+use arc_bytes::{Memory, take_u32};
 use arc_command::Record;
 use sha2::{Digest, Sha256};
 use std::alloc::Global;
@@ -54,7 +54,7 @@ fn common(left: &[u8], right: &[u8]) -> usize
 /// The greatest length of the list, as the head has it.
 #[tactic(auto, unfolding(crate::specs::Image::head_fault, arc_bytes::specs::Numbers::number_at))]
 fn read_head(image: &[u8], node: u8) -> Result<u32, JournalEnd>
-    ensures fault { end_of result ≡ head_fault node image.now }
+    ensures fault { ending_of result ≡ head_fault node image.now }
     ensures slots { IfOk result (λ n. n ≡ slots_in image.now) }
     ensures range { IfOk result (λ n. (1 ≤ n) × (n ≤ 16384)) }
     ensures head { IfOk result (λ n. take 16 image.now ≡ head node n) }
@@ -113,7 +113,7 @@ fn read_entry(
     count: u32,
 ) -> Result<(Record, usize), JournalEnd>
     requires { max_slots ≤ 16384 }
-    ensures fault { IsCausedBy (end_of result) (entry_fault max_slots count (record { place = place; bytes = bytes.now })) }
+    ensures fault { IsCausedBy (ending_of result) (entry_fault max_slots count (record { place = place; bytes = bytes.now })) }
     ensures entry { IfOk result (λ r. IsEntry max_slots r.0 bytes.now) }
     ensures len { IfOk result (λ r. r.1 ≡ length (record_bytes r.0) + 36) }
     ensures room { OnOk result (count < entry_limit max_slots) }
@@ -146,6 +146,16 @@ fn read_entry(
     Ok((entry, body.len() + 36))
 }
 
+/// Keeps one item more.
+fn keep<T: Drop>(items: &mut Vec<T>, item: T) -> Result<(), Memory>
+    ensures { OnOk result (items.new.items ≡ items.old.items ++ item ∷ []) }
+{
+    match items.push(item) {
+        Ok(()) => Ok(()),
+        Err(_) => Err(Memory),
+    }
+}
+
 /// The records of an image, and the place of the gate that ends them.
 fn read_entries(
     alloc: Global,
@@ -154,7 +164,7 @@ fn read_entries(
 ) -> Result<(Vec<Record>, usize), JournalEnd>
     requires gate { 16 < length image.now }
     requires most { max_slots ≤ 16384 }
-    ensures fault { IsCausedBy (end_of result) (fault_in max_slots 0 (entries_of image.now)) }
+    ensures fault { IsCausedBy (ending_of result) (fault_in max_slots 0 (entries_of image.now)) }
     ensures read { IfOk result (λ r. IsReadTo max_slots r.0.items r.1 image.now) }
     ensures closed { IfOk result (λ r. slice_index image.now r.1 ≢ 1) }
 {
@@ -166,10 +176,48 @@ fn read_entries(
             Ok(entry) => entry,
             Err(end) => return Err(end),
         };
-        if records.push(entry).is_err() {
-            return Err(JournalEnd::Memory);
+        match keep(&mut records, entry) {
+            Ok(()) => {}
+            Err(Memory) => return Err(JournalEnd::Memory),
         }
         place += 1 + len;
     }
     Ok((records, place))
+}
+
+/// What an image says that is a journal of this node.
+#[derive(Drop)]
+pub(crate) struct Opening {
+    /// The greatest length of the node's list.
+    pub(crate) max_slots: u32,
+    /// The records of its entries.
+    pub(crate) records: Vec<Record>,
+    /// The place of the gate behind them.
+    pub(crate) end: u64,
+}
+
+/// Reads an image as a journal of this node.
+#[tactic(auto, unfolding(crate::specs::Image::first_fault))]
+pub(crate) fn read_journal(
+    alloc: Global,
+    image: &[u8],
+    node: u8,
+) -> Result<Opening, JournalEnd>
+    ensures fault { IsCausedBy (ending_of result) (first_fault node image.now) }
+    ensures journal { IfOk result (λ o. IsJournalOf node o.max_slots o.records.items image.now) }
+    ensures end { IfOk result (λ o. o.end ≡ 16 + length (entries (map record_bytes o.records.items))) }
+{
+    let max_slots = match read_head(image, node) {
+        Ok(max_slots) => max_slots,
+        Err(end) => return Err(end),
+    };
+    let (records, end) = match read_entries(alloc, image, max_slots) {
+        Ok(read) => read,
+        Err(end) => return Err(end),
+    };
+    Ok(Opening {
+        max_slots,
+        records,
+        end: end as u64,
+    })
 }

@@ -5,11 +5,10 @@ use Rattle.arc_journal.proofs.Moments.{torn_nowhere, started, goes_on}
 use Rattle.arc_journal.proofs.device.write_synced.Goals as goal
 
 pub returns-in-Ok-sync-clause-any_moment : goal.returns-in-Ok-sync-clause-any_moment
-returns-in-Ok-sync-clause-any_moment g c = λ told.
+returns-in-Ok-sync-clause-any_moment g c = λ told only.
     let disk = g.D.Disk in let laws = g.met.D.Disk in
     let old = c.args.disk.now in let torn_at = c.args.at in let len = length c.args.bytes.now in
     let P = Torn torn_at len (disk.content old) in
-    let only = c.requires.durable told in
     let first = started disk.moment disk.may_leave disk.left_since old P (λ image left. laws.only_now old image told left)
     (λ image left. subst (λ (l : List ℕ). Torn torn_at len (disk.content old) l) (sym (only image left)) (torn_nowhere torn_at len (disk.content old))) in
     let torn = λ (image : List ℕ) (left : disk.may_leave c.write_at.new.self image). let from = c.write_at.ensures.crash told image left in subst (λ (l : List ℕ). Torn torn_at len l image) (only from.0 from.1) from.2 in
@@ -18,11 +17,10 @@ returns-in-Ok-sync-clause-any_moment g c = λ told.
     (λ image left. torn image ((c.sync.ensures.kept told).crash image left))
 
 pub returns-in-Err-sync-clause-any_moment : goal.returns-in-Err-sync-clause-any_moment
-returns-in-Err-sync-clause-any_moment g c = λ told.
+returns-in-Err-sync-clause-any_moment g c = λ told only.
     let disk = g.D.Disk in let laws = g.met.D.Disk in
     let old = c.args.disk.now in let torn_at = c.args.at in let len = length c.args.bytes.now in
     let P = Torn torn_at len (disk.content old) in
-    let only = c.requires.durable told in
     let first = started disk.moment disk.may_leave disk.left_since old P (λ image left. laws.only_now old image told left)
     (λ image left. subst (λ (l : List ℕ). Torn torn_at len (disk.content old) l) (sym (only image left)) (torn_nowhere torn_at len (disk.content old))) in
     let torn = λ (image : List ℕ) (left : disk.may_leave c.write_at.new.self image). let from = c.write_at.ensures.crash told image left in subst (λ (l : List ℕ). Torn torn_at len l image) (only from.0 from.1) from.2 in
