@@ -3,3 +3,4 @@ pub mod Layout
 pub mod Torn
 pub mod Bodies
 pub mod Image
+pub mod Journal

@@ -1,11 +1,14 @@
 //! The bodies of entries: the spellings of records.
-ghost use Rattle.std.specs.Prelude.{◌≡◌, ◌≤◌, ◌++◌, length, Some, None, IfOk, OnOk, IsErrOf};
+ghost use Rattle.std.specs.Prelude.{◌≡◌, ◌≤◌, ◌++◌, ◌∷◌, [], ℕ, true, length, Some, None, IfOk, OnOk, IsErrOf};
 ghost use Rattle.arc_command.specs.Spelling.{record_bytes};
 ghost use Rattle.arc_command.specs.Valid.{IsValidRecord};
 ghost use Rattle.arc_journal.specs.Bodies.{record_of};
+ghost use Rattle.arc_journal.specs.Image.{IsKept, is_below};
+ghost use Rattle.arc_journal.specs.Layout.{sealed};
 
-use arc_bytes::Memory;
+use arc_bytes::{Memory, put_u32};
 use arc_command::Record;
+use sha2::{Digest, Sha256};
 use std::alloc::Global;
 
 /// Why a body was not read.
@@ -35,4 +38,22 @@ pub(crate) fn write_body(entry: &Record, out: &mut Vec<u8>) -> Result<(), Memory
     ensures reads { OnOk result (record_of (record_bytes entry.now) ≡ Some entry.now) }
 {
     Err(Memory)
+}
+
+/// Puts what stands behind the gate of an entry, and the closed gate behind it, into the buffer.
+#[tactic(auto, unfolding(arc_bytes::specs::Numbers::number_bytes))]
+pub(crate) fn seal(entry: &Record, out: &mut Vec<u8>) -> Result<(), Memory>
+    requires { IsValidRecord entry.now }
+    ensures sealed { OnOk result (out.new.items ≡ sealed (record_bytes entry.now) ++ 0 ∷ []) }
+    ensures kept { (slots : ℕ) → is_below slots entry.now ≡ true → OnOk result (IsKept slots entry.now) }
+{
+    out.clear();
+    put_u32(out, 0)?;
+    write_body(entry, out)?;
+    let len = (out.len() - 4) as u32;
+    out[..4].copy_from_slice(&len.to_be_bytes());
+    let digest = Sha256::digest(&out[4..]);
+    out.extend_from_slice(&digest)?;
+    out.push(0)?;
+    Ok(())
 }
