@@ -57,6 +57,20 @@ length-sha256 bytes = length-digest_bytes _ 8
 pub length-sealed : (body : List ℕ) → length (sealed body) ≡ length body + 36
 length-sealed body = omega (arith, length-append (number_bytes w32 (length body) ++ body) (sha256 body), length-append (number_bytes w32 (length body)) body, length-number (length body), length-sha256 body)
 
+pub payload_is_short : (body payload : List ℕ) → length body ≤ 1037 → payload ≡ sealed body ++ 0 ∷ [] → length payload ≤ 1074
+payload_is_short body payload short is = omega (arith, short, ap length is, length-append (sealed body) (0 ∷ []), length-sealed body)
+
+-- an entry that was put together
+pub sealed_in_steps : (body first second third fourth : List ℕ) (n : ℕ) → first ≡ [] ++ number_bytes w32 0 → second ≡ first ++ body → n ≡ length second - 4
+    → third ≡ number_bytes w32 n ++ drop 4 second → fourth ≡ third ++ sha256 (drop 4 third) ++ 0 ∷ [] → fourth ≡ sealed body ++ 0 ∷ []
+sealed_in_steps body first second third fourth n is_first is_second is_n is_third is_fourth =
+    let four : length first ≡ 4 = ap length is_first ∙ length-number 0 in
+    let behind : drop 4 second ≡ body = ap (λ (l : List ℕ). drop 4 l) is_second ∙ drop_at first body 4 four in
+    let count : n ≡ length body = omega (arith, is_n, ap length is_second, length-append first body, four) in
+    let spelled : third ≡ number_bytes w32 (length body) ++ body = is_third ∙ (λ i. number_bytes w32 (count i) ++ behind i) in
+    let digested : drop 4 third ≡ body = ap (λ (l : List ℕ). drop 4 l) spelled ∙ drop_at (number_bytes w32 (length body)) body 4 (length-number (length body)) in
+    is_fourth ∙ (λ i. spelled i ++ sha256 (digested i) ++ 0 ∷ [])
+
 -- ---- the parts of an entry
 
 module _ (body rest : List ℕ) (short : length body ≤ 1037) where

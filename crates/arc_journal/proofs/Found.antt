@@ -94,7 +94,7 @@ faultless slots count place (r ∷ records) gate ignored closed (one, others) ro
 
 -- ---- the head
 
-length-head : (node slots : ℕ) → length (head node slots) ≡ 16
+pub length-head : (node slots : ℕ) → length (head node slots) ≡ 16
 length-head node slots = omega (arith, length-append (signature node) (number_bytes w32 slots), length-number slots)
 
 common-same : (xs ys : List ℕ) → common xs (xs ++ ys) ≡ length xs

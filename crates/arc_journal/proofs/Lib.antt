@@ -6,3 +6,4 @@ pub mod Commons
 pub mod Entries
 pub mod Walking
 pub mod Found
+pub mod Standing

@@ -34,7 +34,7 @@ at_closed place gate bytes closed = grind (arith, nat_tests)
 pub length-push : (records : List Record) (r : Record) → length (records ++ r ∷ []) ≡ length records + 1
 length-push records r = length-append records (r ∷ [])
 
-map-push : (records : List Record) (r : Record) → map record_bytes (records ++ r ∷ []) ≡ map record_bytes records ++ record_bytes r ∷ []
+pub map-push : (records : List Record) (r : Record) → map record_bytes (records ++ r ∷ []) ≡ map record_bytes records ++ record_bytes r ∷ []
 map-push [] r = refl
 map-push (s ∷ records) r = ap (λ (l : List (List ℕ)). record_bytes s ∷ l) (map-push records r)
 

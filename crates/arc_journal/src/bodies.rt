@@ -1,5 +1,8 @@
 //! The bodies of entries: the spellings of records.
-ghost use Rattle.std.specs.Prelude.{◌≡◌, ◌≤◌, ◌++◌, ◌∷◌, [], ℕ, true, length, Some, None, IfOk, OnOk, IsErrOf};
+ghost use Rattle.std.specs.Prelude.{◌≡◌, ◌≤◌, ◌++◌, ◌∷◌, [], ℕ, true, length, drop, Some, None, IfOk, OnOk, IsErrOf};
+ghost use Rattle.std.specs.Int.{w32};
+ghost use Rattle.sha2.specs.Sha256.{sha256};
+ghost use Rattle.arc_bytes.specs.Numbers.{number_bytes};
 ghost use Rattle.arc_command.specs.Spelling.{record_bytes};
 ghost use Rattle.arc_command.specs.Valid.{IsValidRecord};
 ghost use Rattle.arc_journal.specs.Bodies.{record_of};
@@ -40,8 +43,27 @@ pub(crate) fn write_body(entry: &Record, out: &mut Vec<u8>) -> Result<(), Memory
     Err(Memory)
 }
 
-/// Puts what stands behind the gate of an entry, and the closed gate behind it, into the buffer.
+/// Puts a number over the first four bytes.
 #[tactic(auto, unfolding(arc_bytes::specs::Numbers::number_bytes))]
+fn set_number(bytes: &mut [u8], number: u32)
+    requires { 4 ≤ length bytes.old }
+    ensures { bytes.new ≡ number_bytes w32 number ++ drop 4 bytes.old }
+{
+    bytes[..4].copy_from_slice(&number.to_be_bytes());
+}
+
+/// Appends the digest of what stands behind the first four bytes, and a closed gate.
+fn close(out: &mut Vec<u8>) -> Result<(), Memory>
+    requires { 4 ≤ length out.old.items }
+    ensures { OnOk result (out.new.items ≡ out.old.items ++ sha256 (drop 4 out.old.items) ++ 0 ∷ []) }
+{
+    let digest = Sha256::digest(&out[4..]);
+    out.extend_from_slice(&digest)?;
+    out.push(0)?;
+    Ok(())
+}
+
+/// Puts what stands behind the gate of an entry, and the closed gate behind it, into the buffer.
 pub(crate) fn seal(entry: &Record, out: &mut Vec<u8>) -> Result<(), Memory>
     requires { IsValidRecord entry.now }
     ensures sealed { OnOk result (out.new.items ≡ sealed (record_bytes entry.now) ++ 0 ∷ []) }
@@ -51,9 +73,6 @@ pub(crate) fn seal(entry: &Record, out: &mut Vec<u8>) -> Result<(), Memory>
     put_u32(out, 0)?;
     write_body(entry, out)?;
     let len = (out.len() - 4) as u32;
-    out[..4].copy_from_slice(&len.to_be_bytes());
-    let digest = Sha256::digest(&out[4..]);
-    out.extend_from_slice(&digest)?;
-    out.push(0)?;
-    Ok(())
+    set_number(out, len);
+    close(out)
 }
