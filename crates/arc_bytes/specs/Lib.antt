@@ -5,5 +5,6 @@ pub mod All
 pub mod InMemory
 pub mod Stream
 pub mod Five
+pub mod Adding
 pub mod Numbers
 pub mod Lending

@@ -1,6 +1,7 @@
 //! Numbers in bytes, the highest byte first.
-ghost use Rattle.std.specs.Prelude.{◌≡◌, ◌+◌, ◌++◌, ◌≤◌, length, vec_capacity, OnErr, OnOk, IsOk};
+ghost use Rattle.std.specs.Prelude.{◌≡◌, OnErr};
 ghost use Rattle.std.specs.Int.{w16, w32, w64};
+ghost use Rattle.arc_bytes.specs.Adding.{Adds};
 ghost use Rattle.arc_bytes.specs.Numbers.{number_at, number_bytes};
 
 use crate::Memory;
@@ -57,37 +58,31 @@ pub fn take_u64(bytes: &[u8], at: usize) -> Result<(u64, usize), Short>
     Ok((number, at + 8))
 }
 
-/// Appends a number in two bytes.
+/// Puts a number in two bytes at the end. After `Memory` the bytes are as they were.
 #[tactic(auto, unfolding(crate::specs::Numbers::number_bytes))]
 pub fn put_u16(out: &mut Vec<u8>, v: u16) -> Result<(), Memory>
-    ensures appends { OnOk result (out.new.items ≡ out.old.items ++ number_bytes w16 v) }
+    ensures adds { Adds out.old out.new (number_bytes w16 v) result }
     ensures kept { OnErr result (out.new.items ≡ out.old.items) }
-    ensures room { length out.old.items + 2 ≤ vec_capacity out.old → IsOk result }
-    ensures capacity { vec_capacity out.old ≤ vec_capacity out.new }
 {
     out.extend_from_slice(&v.to_be_bytes())?;
     Ok(())
 }
 
-/// Appends a number in four bytes.
+/// Puts a number in four bytes at the end. After `Memory` the bytes are as they were.
 #[tactic(auto, unfolding(crate::specs::Numbers::number_bytes))]
 pub fn put_u32(out: &mut Vec<u8>, v: u32) -> Result<(), Memory>
-    ensures appends { OnOk result (out.new.items ≡ out.old.items ++ number_bytes w32 v) }
+    ensures adds { Adds out.old out.new (number_bytes w32 v) result }
     ensures kept { OnErr result (out.new.items ≡ out.old.items) }
-    ensures room { length out.old.items + 4 ≤ vec_capacity out.old → IsOk result }
-    ensures capacity { vec_capacity out.old ≤ vec_capacity out.new }
 {
     out.extend_from_slice(&v.to_be_bytes())?;
     Ok(())
 }
 
-/// Appends a number in eight bytes.
+/// Puts a number in eight bytes at the end. After `Memory` the bytes are as they were.
 #[tactic(auto, unfolding(crate::specs::Numbers::number_bytes))]
 pub fn put_u64(out: &mut Vec<u8>, v: u64) -> Result<(), Memory>
-    ensures appends { OnOk result (out.new.items ≡ out.old.items ++ number_bytes w64 v) }
+    ensures adds { Adds out.old out.new (number_bytes w64 v) result }
     ensures kept { OnErr result (out.new.items ≡ out.old.items) }
-    ensures room { length out.old.items + 8 ≤ vec_capacity out.old → IsOk result }
-    ensures capacity { vec_capacity out.old ≤ vec_capacity out.new }
 {
     out.extend_from_slice(&v.to_be_bytes())?;
     Ok(())

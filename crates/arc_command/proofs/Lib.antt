@@ -1,1 +1,5 @@
 pub mod Promises
+pub mod Items
+pub mod Texts
+pub mod Putting
+pub mod Lengths

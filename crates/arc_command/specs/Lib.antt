@@ -2,7 +2,6 @@ pub mod Valid
 pub mod Typed
 pub mod Spelling
 pub mod Reader
-pub mod Writing
 pub mod Reading
 pub mod Laws
 pub mod Entries

@@ -9,17 +9,24 @@
 #![tactic(auto)]
 
 mod bytes;
+mod codec;
 mod command;
+mod command_bytes;
 mod entries;
 mod equality;
+mod field;
+mod fields;
 mod list;
 mod message;
+mod op_bytes;
 mod record;
+mod record_bytes;
 mod reply;
 mod text;
 
 pub use arc_ids::{CommandId, ControlId, PanelId, RuleId};
 pub use bytes::CommandEnd;
+pub use codec::{decode, decode_record, encode, encode_record};
 pub use command::{Batch, Command, Entry, MAX_MS, Op, is_valid};
 pub use entries::{closed_len, promise, top_vote};
 pub use equality::Equals;
