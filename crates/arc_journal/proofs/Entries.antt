@@ -60,11 +60,15 @@ length-sealed body = omega (arith, length-append (number_bytes w32 (length body)
 pub payload_is_short : (body payload : List ℕ) → length body ≤ 1037 → payload ≡ sealed body ++ 0 ∷ [] → length payload ≤ 1074
 payload_is_short body payload short is = omega (arith, short, ap length is, length-append (sealed body) (0 ∷ []), length-sealed body)
 
+pub length-begun : (cleared first second body : List ℕ) → cleared ≡ [] → first ≡ cleared ++ number_bytes w32 0 → second ≡ first ++ body → length second ≡ 4 + length body
+length-begun cleared first second body none is_first is_second =
+    omega (arith, ap length none, ap length is_first, length-append cleared (number_bytes w32 0), length-number 0, ap length is_second, length-append first body)
+
 -- an entry that was put together
-pub sealed_in_steps : (body first second third fourth : List ℕ) (n : ℕ) → first ≡ [] ++ number_bytes w32 0 → second ≡ first ++ body → n ≡ length second - 4
+pub sealed_in_steps : (body cleared first second third fourth : List ℕ) (n : ℕ) → cleared ≡ [] → first ≡ cleared ++ number_bytes w32 0 → second ≡ first ++ body → n ≡ length second - 4
     → third ≡ number_bytes w32 n ++ drop 4 second → fourth ≡ third ++ sha256 (drop 4 third) ++ 0 ∷ [] → fourth ≡ sealed body ++ 0 ∷ []
-sealed_in_steps body first second third fourth n is_first is_second is_n is_third is_fourth =
-    let four : length first ≡ 4 = ap length is_first ∙ length-number 0 in
+sealed_in_steps body cleared first second third fourth n none is_first is_second is_n is_third is_fourth =
+    let four : length first ≡ 4 = omega (arith, ap length none, ap length is_first, length-append cleared (number_bytes w32 0), length-number 0) in
     let behind : drop 4 second ≡ body = ap (λ (l : List ℕ). drop 4 l) is_second ∙ drop_at first body 4 four in
     let count : n ≡ length body = omega (arith, is_n, ap length is_second, length-append first body, four) in
     let spelled : third ≡ number_bytes w32 (length body) ++ body = is_third ∙ (λ i. number_bytes w32 (count i) ++ behind i) in

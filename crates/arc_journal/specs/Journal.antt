@@ -4,11 +4,13 @@ use Rattle.arc_bytes.specs.Counts.{HasRisen}
 use Rattle.arc_disk.specs.Disk.{Only}
 use Rattle.arc_command.specs.declared.record.Record.{Record}
 use Rattle.arc_command.specs.Spelling.{record_bytes}
-use Rattle.arc_journal.specs.Layout.{entries, entry_limit}
+use Rattle.arc_journal.specs.Layout.{head, entries, entry_limit}
 use Rattle.arc_journal.specs.Image.{records_of, IsJournalOf}
 use Rattle.arc_journal.specs.Runs.{IsRun, NoStopWithin}
 use Rattle.arc_journal.specs.declared.end.AppendEnd.{AppendEnd}
 use Rattle.arc_journal.specs.declared.end.AppendEnd.TheVariants.{Disk, Full, Memory}
+use Rattle.arc_journal.specs.declared.end.JournalEnd.{JournalEnd}
+use Rattle.arc_journal.specs.declared.end.JournalEnd.TheVariants as ends
 use Rattle.arc_journal.specs.declared.journal.Journal.{Journal}
 
 -- The disk on which it lies.
@@ -98,3 +100,20 @@ AppendsOne tells content may_leave old new r (Err (Full n)) = new ≡ old
 AppendsOne tells content may_leave old new r (Err Memory) =
     IsSettled tells content may_leave new × IsUnchanged old new
     × (tells → records_of (content (disk_of new)) ≡ records_of (content (disk_of old)))
+
+-- The bytes were not refused: the disk failed, or there was no memory.
+abbrev pub IsNoRefusal : JournalEnd → Type 0
+IsNoRefusal ends.Disk = Unit {0}
+IsNoRefusal (ends.NotOurs place) = ⊥
+IsNoRefusal (ends.Rotten place stored computed) = ⊥
+IsNoRefusal ends.Memory = Unit {0}
+
+-- A journal of this node and this greatest length of its list, without entries and settled.
+pub record IsNew {D : Type 0} (tells : Type 0) (content : D → List ℕ) (may_leave : D → List ℕ → Type 0)
+    (journal : Journal D) (node slots : ℕ) : Type 0 where
+  pub settled : IsSettled tells content may_leave journal
+  pub node_is : node_of journal ≡ node
+  pub slots_are : slots_of journal ≡ slots
+  pub count : count_of journal ≡ 0
+  pub bytes : tells → content (disk_of journal) ≡ head node slots ++ 0 ∷ []
+  pub records : tells → records_of (content (disk_of journal)) ≡ []

@@ -74,5 +74,6 @@ pub(crate) fn seal(entry: &Record, out: &mut Vec<u8>) -> Result<(), Memory>
     write_body(entry, out)?;
     let len = (out.len() - 4) as u32;
     set_number(out, len);
-    close(out)
+    close(out)?;
+    Ok(())
 }

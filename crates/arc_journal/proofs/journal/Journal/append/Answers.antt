@@ -1,5 +1,5 @@
 -- What the append leaves at each moment, and how the journal stands after it.
-use Rattle.std.proofs.Common.{◌≡◌, ◌+◌, ◌*◌, ◌≤◌, ◌<◌, ℕ, List, [], ◌∷◌, ◌++◌, length, refl, sym, ◌∙◌, ap, rules, arith}
+use Rattle.std.proofs.Common.{◌≡◌, ◌+◌, ◌*◌, ◌≤◌, ◌<◌, ℕ, List, [], ◌∷◌, ◌++◌, length, Err, refl, sym, ◌∙◌, ap, rules, arith}
 use Rattle.arc_journal.specs.Image.{IsKept, records_of}
 use Rattle.arc_journal.specs.Layout.{entry_limit}
 use Rattle.arc_journal.specs.Torn.{TornInTurn}
@@ -22,9 +22,9 @@ returns-in-Err-Failed-clause-any_moment g c = λ told.
     let stands = c.requires.settled.stands told in
     let kept = c.in-Ok.ensures.kept journal.max_slots c.requires.below in
     let room : count_of c.args.self.now < entry_limit (slots_of c.args.self.now) = omega (arith, c.if-self-entry_limit.false, c.entry_limit.ensures) in
-    widened disk.moment disk.left_since journal.disk c.write_entry.new.disk (TornInTurn (disk.content journal.disk) journal.place c.seal.new.out.items)
+    widened disk.moment disk.left_since journal.disk c.write_entry.new.disk (TornInTurn (disk.content journal.disk) journal.place c.deref.result.now)
     (IsBeforeOrWith journal.node journal.max_slots records c.args.entry.now)
-    (leaves_before_or_with disk.content disk.may_leave journal records stands c.args.entry.now kept room c.seal.new.out.items c.in-Ok.ensures.sealed)
+    (leaves_before_or_with disk.content disk.may_leave journal records stands c.args.entry.now kept room c.deref.result.now (c.deref.ensures.value ∙ c.in-Ok.ensures.sealed))
     (c.write_entry.ensures.any_moment told)
 
 pub returns-in-Err-Memory-clause-any_moment : goal.returns-in-Err-Memory-clause-any_moment
@@ -33,9 +33,9 @@ returns-in-Err-Memory-clause-any_moment g c = λ told.
     let stands = c.requires.settled.stands told in
     let kept = c.in-Ok.ensures.kept journal.max_slots c.requires.below in
     let room : count_of c.args.self.now < entry_limit (slots_of c.args.self.now) = omega (arith, c.if-self-entry_limit.false, c.entry_limit.ensures) in
-    widened disk.moment disk.left_since journal.disk c.write_entry.new.disk (TornInTurn (disk.content journal.disk) journal.place c.seal.new.out.items)
+    widened disk.moment disk.left_since journal.disk c.write_entry.new.disk (TornInTurn (disk.content journal.disk) journal.place c.deref.result.now)
     (IsBeforeOrWith journal.node journal.max_slots records c.args.entry.now)
-    (leaves_before_or_with disk.content disk.may_leave journal records stands c.args.entry.now kept room c.seal.new.out.items c.in-Ok.ensures.sealed)
+    (leaves_before_or_with disk.content disk.may_leave journal records stands c.args.entry.now kept room c.deref.result.now (c.deref.ensures.value ∙ c.in-Ok.ensures.sealed))
     (c.write_entry.ensures.any_moment told)
 
 pub returns-clause-any_moment : goal.returns-clause-any_moment
@@ -44,9 +44,9 @@ returns-clause-any_moment g c = λ told.
     let stands = c.requires.settled.stands told in
     let kept = c.in-Ok.ensures.kept journal.max_slots c.requires.below in
     let room : count_of c.args.self.now < entry_limit (slots_of c.args.self.now) = omega (arith, c.if-self-entry_limit.false, c.entry_limit.ensures) in
-    widened disk.moment disk.left_since journal.disk c.write_entry.new.disk (TornInTurn (disk.content journal.disk) journal.place c.seal.new.out.items)
+    widened disk.moment disk.left_since journal.disk c.write_entry.new.disk (TornInTurn (disk.content journal.disk) journal.place c.deref.result.now)
     (IsBeforeOrWith journal.node journal.max_slots records c.args.entry.now)
-    (leaves_before_or_with disk.content disk.may_leave journal records stands c.args.entry.now kept room c.seal.new.out.items c.in-Ok.ensures.sealed)
+    (leaves_before_or_with disk.content disk.may_leave journal records stands c.args.entry.now kept room c.deref.result.now (c.deref.ensures.value ∙ c.in-Ok.ensures.sealed))
     (c.write_entry.ensures.any_moment told)
 
 pub returns-in-Err-Memory-clause-entries : goal.returns-in-Err-Memory-clause-entries
@@ -57,8 +57,8 @@ returns-in-Err-Memory-clause-entries g c =
     let room : count_of c.args.self.now < entry_limit (slots_of c.args.self.now) = omega (arith, c.if-self-entry_limit.false, c.entry_limit.ensures) in
     let new : Journal g.row.D.Denot = record { disk = c.write_entry.new.disk; node = journal.node; max_slots = journal.max_slots; count = journal.count; place = journal.place; entry = c.seal.new.out } in
     let stands = λ (told : disk.tells).
-    still_stands disk.content disk.may_leave journal records (c.requires.settled.stands told) c.args.entry.now kept room c.seal.new.out.items c.in-Ok.ensures.sealed
-    new refl refl refl refl (c.in-Err-Memory.ensures.memory told refl) in (
+    still_stands disk.content disk.may_leave journal records (c.requires.settled.stands told) c.args.entry.now kept room c.deref.result.now (c.deref.ensures.value ∙ c.in-Ok.ensures.sealed)
+    new refl refl refl refl (c.in-Err-Memory.ensures.memory told (ap (λ e. Err e) c.in-Err-Memory.field-0-is)) in (
       record {
         limits = record { some = limits.some; most = limits.most; count = limits.count; place = limits.place };
         stands = λ told. with_records_of disk.content disk.may_leave new records (stands told);
@@ -73,11 +73,11 @@ returns-clause-entries g c =
     let limits = c.requires.settled.limits in
     let kept = c.in-Ok.ensures.kept journal.max_slots c.requires.below in
     let room : count_of c.args.self.now < entry_limit (slots_of c.args.self.now) = omega (arith, c.if-self-entry_limit.false, c.entry_limit.ensures) in
-    let counted : c.len.result ≡ length c.seal.new.out.items = search rules in
-    let long : length c.seal.new.out.items ≤ 1074 = payload_is_short (record_bytes c.args.entry.now) c.seal.new.out.items kept.short c.in-Ok.ensures.sealed in
+    let counted : c.len.result ≡ length c.deref.result.now = search rules in
+    let long : length c.deref.result.now ≤ 1074 = payload_is_short (record_bytes c.args.entry.now) c.deref.result.now kept.short (c.deref.ensures.value ∙ c.in-Ok.ensures.sealed) in
     let new : Journal g.row.D.Denot = record { disk = c.write_entry.new.disk; node = journal.node; max_slots = journal.max_slots; count = journal.count + 1; place = journal.place + c.len.result; entry = c.seal.new.out } in
     let stands = λ (told : disk.tells).
-    stands_with_it disk.content disk.may_leave journal records (c.requires.settled.stands told) c.args.entry.now kept room c.seal.new.out.items c.in-Ok.ensures.sealed
+    stands_with_it disk.content disk.may_leave journal records (c.requires.settled.stands told) c.args.entry.now kept room c.deref.result.now (c.deref.ensures.value ∙ c.in-Ok.ensures.sealed)
     new refl refl refl (ap (λ (n : ℕ). journal.place + n) counted) (c.in-Ok-write_entry.ensures.written told) (c.in-Ok-write_entry.ensures.durable told) in (
       record {
         limits = record { some = limits.some; most = limits.most; count = omega (arith, room); place = omega (arith, limits.place, counted, long) };
