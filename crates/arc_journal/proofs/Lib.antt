@@ -7,3 +7,4 @@ pub mod Entries
 pub mod Walking
 pub mod Found
 pub mod Standing
+pub mod OpeningLemmas

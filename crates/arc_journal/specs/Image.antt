@@ -148,3 +148,10 @@ pub record IsReadTo (slots : ℕ) (records : List Record) (place : ℕ) (image :
   pub kept : AreKept slots records
   pub room : length records ≤ entry_limit slots
   pub within : place < length image
+
+-- The bytes were not refused: the disk failed, or there was no memory.
+abbrev pub IsNoRefusal : JournalEnd → Type 0
+IsNoRefusal Disk = Unit {0}
+IsNoRefusal (NotOurs place) = ⊥
+IsNoRefusal (Rotten place stored computed) = ⊥
+IsNoRefusal Memory = Unit {0}

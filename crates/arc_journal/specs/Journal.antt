@@ -9,8 +9,6 @@ use Rattle.arc_journal.specs.Image.{records_of, IsJournalOf}
 use Rattle.arc_journal.specs.Runs.{IsRun, NoStopWithin}
 use Rattle.arc_journal.specs.declared.end.AppendEnd.{AppendEnd}
 use Rattle.arc_journal.specs.declared.end.AppendEnd.TheVariants.{Disk, Full, Memory}
-use Rattle.arc_journal.specs.declared.end.JournalEnd.{JournalEnd}
-use Rattle.arc_journal.specs.declared.end.JournalEnd.TheVariants as ends
 use Rattle.arc_journal.specs.declared.journal.Journal.{Journal}
 
 -- The disk on which it lies.
@@ -100,13 +98,6 @@ AppendsOne tells content may_leave old new r (Err (Full n)) = new ≡ old
 AppendsOne tells content may_leave old new r (Err Memory) =
     IsSettled tells content may_leave new × IsUnchanged old new
     × (tells → records_of (content (disk_of new)) ≡ records_of (content (disk_of old)))
-
--- The bytes were not refused: the disk failed, or there was no memory.
-abbrev pub IsNoRefusal : JournalEnd → Type 0
-IsNoRefusal ends.Disk = Unit {0}
-IsNoRefusal (ends.NotOurs place) = ⊥
-IsNoRefusal (ends.Rotten place stored computed) = ⊥
-IsNoRefusal ends.Memory = Unit {0}
 
 -- A journal of this node and this greatest length of its list, without entries and settled.
 pub record IsNew {D : Type 0} (tells : Type 0) (content : D → List ℕ) (may_leave : D → List ℕ → Type 0)

@@ -45,11 +45,11 @@ pub(crate) fn write_body(entry: &Record, out: &mut Vec<u8>) -> Result<(), Memory
 
 /// Puts a number over the first four bytes.
 #[tactic(auto, unfolding(arc_bytes::specs::Numbers::number_bytes))]
-fn set_number(bytes: &mut [u8], number: u32)
-    requires { 4 ≤ length bytes.old }
-    ensures { bytes.new ≡ number_bytes w32 number ++ drop 4 bytes.old }
+fn set_number(out: &mut Vec<u8>, number: u32)
+    requires { 4 ≤ length out.old.items }
+    ensures { out.new.items ≡ number_bytes w32 number ++ drop 4 out.old.items }
 {
-    bytes[..4].copy_from_slice(&number.to_be_bytes());
+    out[..4].copy_from_slice(&number.to_be_bytes());
 }
 
 /// Appends the digest of what stands behind the first four bytes, and a closed gate.

@@ -1,6 +1,7 @@
 //! Runs of device calls that write something for good.
-ghost use Rattle.std.specs.Prelude.{◌≡◌, ◌<◌, ◌≤◌, ◌^◌, List, ℕ, length, IfOk, OnOk, IsErrOf};
+ghost use Rattle.std.specs.Prelude.{◌≡◌, ◌<◌, ◌≤◌, ◌^◌, List, ℕ, length, IfErr, IfOk, OnOk, IsErrOf};
 ghost use Rattle.arc_disk.specs.Disk.{IsUntouched, Keeps, LeavesOnly, Only, Torn, written};
+ghost use Rattle.arc_journal.specs.Image.{IsNoRefusal};
 ghost use Rattle.arc_journal.specs.Runs.{OpensInRun, WritesInRun, ending_of};
 ghost use Rattle.arc_journal.specs.Torn.{IsGateShut, TornInTurn, opened};
 
@@ -56,6 +57,7 @@ pub(crate) fn write_entry<D: Disk>(disk: &mut D, gate: u64, payload: &[u8]) -> R
 pub(crate) fn read_image<D: Disk>(alloc: Global, disk: &mut D) -> Result<Vec<u8>, JournalEnd>
     ensures image { D.tells → IfOk result (λ v. v.items ≡ D.content disk.old) }
     ensures durable { D.tells → OnOk result (Only (D.content disk.new) (D.may_leave disk.new)) }
+    ensures answer { IfErr result IsNoRefusal }
     ensures kept { D.tells → Keeps D.content D.may_leave disk.old disk.new }
     ensures any_moment { D.tells → LeavesOnly D.moment D.left_since disk.old disk.new (D.may_leave disk.old) }
     ensures calls { OpensInRun D.moment D.faults D.stops_in D.is_tame 3 disk.old disk.new (ending_of result) }

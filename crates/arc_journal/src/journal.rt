@@ -4,10 +4,10 @@ ghost use Rattle.arc_bytes.specs.Counts.{HasRisen};
 ghost use Rattle.arc_disk.specs.Calls.{IsNoCall};
 ghost use Rattle.arc_disk.specs.Disk.{IsUntouched, Keeps, LeavesOnly, Only};
 ghost use Rattle.arc_command.specs.Valid.{IsValidRecord};
-ghost use Rattle.arc_journal.specs.Image.{IsCausedBy, IsJournalOf, first_fault, is_below, records_of};
+ghost use Rattle.arc_journal.specs.Image.{IsCausedBy, IsJournalOf, IsNoRefusal, first_fault, is_below, records_of};
 ghost use Rattle.arc_journal.specs.Runs.{OpensInRun};
 ghost use Rattle.arc_journal.specs.Layout.{entry_limit, head};
-ghost use Rattle.arc_journal.specs.Journal.{AnswersAppend, AppendsInRun, AppendsOne, IsBeforeOrWith, IsNew, IsNoRefusal, IsOfSame, IsSettled, IsUnchanged, count_of, disk_of, node_of, slots_of};
+ghost use Rattle.arc_journal.specs.Journal.{AnswersAppend, AppendsInRun, AppendsOne, IsBeforeOrWith, IsNew, IsOfSame, IsSettled, IsUnchanged, count_of, disk_of, node_of, slots_of};
 
 use crate::bodies::seal;
 use crate::device::{read_image, write_entry, write_synced};

@@ -1,5 +1,5 @@
 //! What the bytes of an image say.
-ghost use Rattle.std.specs.Prelude.{◌≡◌, ◌++◌, ◌∷◌, [], ◌+◌, ◌*◌, ◌≤◌, ◌<◌, ℕ, true, false, length, map, take, vec_len, slice_index, ◌≢◌, MatchOption, IfOk, OnOk};
+ghost use Rattle.std.specs.Prelude.{◌≡◌, ◌++◌, ◌∷◌, [], ◌+◌, ◌*◌, ◌≤◌, ◌<◌, ℕ, true, false, length, map, take, vec_len, slice_index, ◌≢◌, MatchOption, IfErr, IfOk, OnOk};
 ghost use Rattle.arc_journal.specs.Image.{AreKept, IsCausedBy, IsEntry, IsJournalOf, IsReadTo, body_in, common, entries_of, entry_fault, fault_in, first_fault, head_fault, is_below, is_whole, slots_in};
 ghost use Rattle.arc_journal.specs.Layout.{entries, entry_limit, head, signature};
 ghost use Rattle.arc_journal.specs.Runs.{ending_of};
@@ -54,6 +54,7 @@ fn common(left: &[u8], right: &[u8]) -> usize
 /// The greatest length of the list, as the head has it.
 #[tactic(auto, unfolding(crate::specs::Image::head_fault, arc_bytes::specs::Numbers::number_at))]
 fn read_head(image: &[u8], node: u8) -> Result<u32, JournalEnd>
+    ensures own { IfErr result (λ e. e ≢ JournalEnd.Disk) }
     ensures fault { ending_of result ≡ head_fault node image.now }
     ensures slots { IfOk result (λ n. n ≡ slots_in image.now) }
     ensures range { IfOk result (λ n. (1 ≤ n) × (n ≤ 16384)) }
@@ -113,6 +114,7 @@ fn read_entry(
     count: u32,
 ) -> Result<(Record, usize), JournalEnd>
     requires { max_slots ≤ 16384 }
+    ensures own { IfErr result (λ e. e ≢ JournalEnd.Disk) }
     ensures fault { IsCausedBy (ending_of result) (entry_fault max_slots count (record { place = place; bytes = bytes.now })) }
     ensures entry { IfOk result (λ r. IsEntry max_slots r.0 bytes.now) }
     ensures len { IfOk result (λ r. r.1 ≡ length (record_bytes r.0) + 36) }
@@ -164,6 +166,7 @@ fn read_entries(
 ) -> Result<(Vec<Record>, usize), JournalEnd>
     requires gate { 16 < length image.now }
     requires most { max_slots ≤ 16384 }
+    ensures own { IfErr result (λ e. e ≢ JournalEnd.Disk) }
     ensures fault { IsCausedBy (ending_of result) (fault_in max_slots 0 (entries_of image.now)) }
     ensures read { IfOk result (λ r. IsReadTo max_slots r.0.items r.1 image.now) }
     ensures closed { IfOk result (λ r. slice_index image.now r.1 ≢ 1) }
@@ -203,6 +206,7 @@ pub(crate) fn read_journal(
     image: &[u8],
     node: u8,
 ) -> Result<Opening, JournalEnd>
+    ensures own { IfErr result (λ e. e ≢ JournalEnd.Disk) }
     ensures fault { IsCausedBy (ending_of result) (first_fault node image.now) }
     ensures journal { IfOk result (λ o. IsJournalOf node o.max_slots o.records.items image.now) }
     ensures end { IfOk result (λ o. o.end ≡ 16 + length (entries (map record_bytes o.records.items))) }
