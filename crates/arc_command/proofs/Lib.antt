@@ -3,3 +3,9 @@ pub mod Items
 pub mod Texts
 pub mod Putting
 pub mod Lengths
+pub mod FieldLaws
+pub mod NumberLaws
+pub mod ListLaws
+pub mod OpLaws
+pub mod CommandLaws
+pub mod RecordLaws

@@ -1,5 +1,6 @@
 //! The four calls: what they read and write is the one spelling.
-ghost use Rattle.std.specs.Prelude.{◌≡◌, ◌+◌, ◌≤◌, ◌++◌, length, vec_capacity, IsOk, OnErr, OnOk};
+ghost use Rattle.std.specs.Prelude.{◌≡◌, ◌+◌, ◌≤◌, ◌++◌, length, vec_capacity, IsOk, IfOk, OnErr, OnOk};
+ghost use Rattle.arc_command.specs.Laws.{BeginsWith, IsSpellableRecord};
 ghost use Rattle.arc_command.specs.Reading.{Gives, command_at, body_of};
 ghost use Rattle.arc_command.specs.Spelling.{command_bytes, record_bytes};
 ghost use Rattle.arc_command.specs.Typed.{IsTyped, IsTypedRecord};
@@ -51,15 +52,26 @@ pub fn encode_record(r: &Record, out: &mut Vec<u8>) -> Result<(), Memory>
 /// can't be read; where fields stand inside a field, the innermost counts.
 pub fn decode(alloc: Global, bytes: &[u8]) -> Result<(Command, usize), CommandEnd>
     ensures exact { Gives result (command_at bytes.now 0) }
+    // What is read is spelled so.
+    ensures spelled { IfOk result (λ x. BeginsWith bytes.now x.0 x.1) }
 {
     read_command(alloc, bytes, 0)
 }
 
 /// The entry whose spelling the bytes are, all of them. Otherwise the place of the first field that can't be read, or
 /// that of the first byte behind the entry.
-#[tactic(auto, unfolding(crate::specs::Reading::body_of))]
 pub fn decode_record(alloc: Global, bytes: &[u8]) -> Result<Record, CommandEnd>
     ensures exact { Gives result (body_of bytes.now) }
+    // What is read is spelled so.
+    ensures spelled { IfOk result (λ r. IsSpellableRecord r × (bytes.now ≡ record_bytes r)) }
+{
+    read_body(alloc, bytes)
+}
+
+/// One entry, and nothing behind it.
+#[tactic(auto, unfolding(crate::specs::Reading::body_of))]
+fn read_body(alloc: Global, bytes: &[u8]) -> Result<Record, CommandEnd>
+    ensures { Gives result (body_of bytes.now) }
 {
     let (record, end) = read_record(alloc, bytes, 0)?;
     if end != bytes.len() {

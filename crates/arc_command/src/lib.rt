@@ -16,6 +16,7 @@ mod entries;
 mod equality;
 mod field;
 mod fields;
+mod laws;
 mod list;
 mod message;
 mod op_bytes;
@@ -30,6 +31,10 @@ pub use codec::{decode, decode_record, encode, encode_record};
 pub use command::{Batch, Command, Entry, MAX_MS, Op, is_valid};
 pub use entries::{closed_len, promise, top_vote};
 pub use equality::Equals;
+pub use laws::{
+    commands_have_one_spelling, entries_have_one_spelling, spelled_commands_are_read,
+    spelled_entries_are_read,
+};
 pub use list::List;
 pub use message::{Answer, Message};
 pub use record::Record;

@@ -14,12 +14,12 @@ use std::alloc::Global;
 
 /// Puts an entry at the end.
 #[tactic(auto, unfolding(crate::specs::Spelling::record_bytes, crate::specs::Spelling::parts_of))]
-pub(crate) fn put_record(out: &mut Vec<u8>, record: &Record) -> Result<(), Memory>
-    requires { IsValidRecord record.now }
-    ensures adds { Adds out.old out.new (record_bytes record.now) result }
-    ensures typed { OnOk result (IsTypedRecord record.now) }
+pub(crate) fn put_record(out: &mut Vec<u8>, r: &Record) -> Result<(), Memory>
+    requires { IsValidRecord r.now }
+    ensures adds { Adds out.old out.new (record_bytes r.now) result }
+    ensures typed { OnOk result (IsTypedRecord r.now) }
 {
-    match record {
+    match r {
         Record::Opened { inc } => {
             put_byte(out, 1)?;
             put_u32(out, *inc)
