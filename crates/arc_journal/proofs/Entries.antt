@@ -57,6 +57,13 @@ length-sha256 bytes = length-digest_bytes _ 8
 pub length-sealed : (body : List ℕ) → length (sealed body) ≡ length body + 36
 length-sealed body = omega (arith, length-append (number_bytes w32 (length body) ++ body) (sha256 body), length-append (number_bytes w32 (length body)) body, length-number (length body), length-sha256 body)
 
+-- bytes of a buffer that were lent and given back with a number over the first four
+pub written_back : (given items : List ℕ) (n len : ℕ) → given ≡ number_bytes w32 n ++ drop 4 items → 4 ≤ length items → len ≡ length items
+    → take len (given ++ drop (length given) items) ≡ number_bytes w32 n ++ drop 4 items
+written_back given items n len over long is =
+    let same : length given ≡ len = omega (arith, ap length over, length-append (number_bytes w32 n) (drop 4 items), length-number n, length-drop 4 items, long, is) in
+    take_at given (drop (length given) items) len same ∙ over
+
 pub payload_is_short : (body payload : List ℕ) → length body ≤ 1037 → payload ≡ sealed body ++ 0 ∷ [] → length payload ≤ 1074
 payload_is_short body payload short is = omega (arith, short, ap length is, length-append (sealed body) (0 ∷ []), length-sealed body)
 

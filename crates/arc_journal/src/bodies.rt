@@ -10,7 +10,7 @@ ghost use Rattle.arc_journal.specs.Image.{IsKept, is_below};
 ghost use Rattle.arc_journal.specs.Layout.{sealed};
 
 use arc_bytes::{Memory, put_u32};
-use arc_command::Record;
+use arc_command::{CommandEnd, Record, decode_record, encode_record, spelled_entries_are_read};
 use sha2::{Digest, Sha256};
 use std::alloc::Global;
 
@@ -24,15 +24,20 @@ pub(crate) enum BodyEnd {
 }
 
 /// The record that a body spells.
-pub(crate) fn read_body(_alloc: Global, body: &[u8]) -> Result<Record, BodyEnd>
+pub(crate) fn read_body(alloc: Global, body: &[u8]) -> Result<Record, BodyEnd>
     ensures read { IfOk result (λ r. record_of body.now ≡ Some r) }
     ensures spelled { IfOk result (λ r. body.now ≡ record_bytes r) }
     ensures none { IsErrOf result BodyEnd.NoRecord → record_of body.now ≡ None }
 {
-    Err(BodyEnd::Memory)
+    match decode_record(alloc, body) {
+        Ok(entry) => Ok(entry),
+        Err(CommandEnd::BadCommand { .. }) => Err(BodyEnd::NoRecord),
+        Err(CommandEnd::Memory) => Err(BodyEnd::Memory),
+    }
 }
 
 /// Appends the body of an entry.
+#[tactic(auto, unfolding(arc_command::specs::Spelling::record_bytes))]
 pub(crate) fn write_body(entry: &Record, out: &mut Vec<u8>) -> Result<(), Memory>
     requires { IsValidRecord entry.now }
     ensures appended { OnOk result (out.new.items ≡ out.old.items ++ record_bytes entry.now) }
@@ -40,16 +45,26 @@ pub(crate) fn write_body(entry: &Record, out: &mut Vec<u8>) -> Result<(), Memory
     ensures short { OnOk result (length (record_bytes entry.now) ≤ 1037) }
     ensures reads { OnOk result (record_of (record_bytes entry.now) ≡ Some entry.now) }
 {
-    Err(Memory)
+    spelled_entries_are_read();
+    encode_record(entry, out)?;
+    Ok(())
 }
 
 /// Puts a number over the first four bytes.
 #[tactic(auto, unfolding(arc_bytes::specs::Numbers::number_bytes))]
+fn put_over(bytes: &mut [u8], number: u32)
+    requires { 4 ≤ length bytes.old }
+    ensures { bytes.new ≡ number_bytes w32 number ++ drop 4 bytes.old }
+{
+    bytes[..4].copy_from_slice(&number.to_be_bytes());
+}
+
+/// Puts a number over the first four bytes of the buffer.
 fn set_number(out: &mut Vec<u8>, number: u32)
     requires { 4 ≤ length out.old.items }
     ensures { out.new.items ≡ number_bytes w32 number ++ drop 4 out.old.items }
 {
-    out[..4].copy_from_slice(&number.to_be_bytes());
+    put_over(out, number);
 }
 
 /// Appends the digest of what stands behind the first four bytes, and a closed gate.
