@@ -3,7 +3,7 @@
 use super::*;
 use arc_bytes::Memory;
 use arc_command::Record;
-use arc_disk::MemoryDisk;
+use arc_disk::{MemoryDisk, Rig};
 use std::alloc::Global;
 use std::test::Fail;
 
