@@ -1,5 +1,5 @@
 -- What a crash leaves of a journal in each step of an append.
-use Rattle.std.proofs.Common.{◌≡◌, ◌⊎◌, inl, inr, ℕ, ◌+◌, List, [], ◌∷◌, ◌++◌, length, get_or, drop, refl, sym, ◌∙◌, ap, subst, arith, append_assoc}
+use Rattle.std.proofs.Common.{◌≡◌, ◌⊎◌, inl, inr, ℕ, ◌+◌, List, [], ◌∷◌, ◌++◌, length, get_or, drop, sym, ◌∙◌, ap, subst, arith, append_assoc}
 use Rattle.std.proofs.lemmas.List.{append-nil}
 use Rattle.std.proofs.lemmas.Bool.{cases_eq}
 use Rattle.arc_disk.specs.Disk.{Torn, written}
@@ -23,8 +23,8 @@ module _ (node slots : ℕ) (bodies : List (List ℕ)) (body : List ℕ) where
     ignored = ignored;
     closed = closed;
     bytes =
-      is ∙ sym (append_assoc front (1 ∷ sealed body) (gate ∷ ignored))
-      ∙ ap (λ (l : List ℕ). l ++ gate ∷ ignored) (append_assoc (head node slots) (entries bodies) (1 ∷ sealed body) ∙ ap (λ (l : List ℕ). head node slots ++ l) (sym (entries-push bodies body)));
+        is ∙ sym (append_assoc front (1 ∷ sealed body) (gate ∷ ignored))
+        ∙ ap (λ (l : List ℕ). l ++ gate ∷ ignored) (append_assoc (head node slots) (entries bodies) (1 ∷ sealed body) ∙ ap (λ (l : List ℕ). head node slots ++ l) (sym (entries-push bodies body)));
   }
 
   -- an entry behind any gate counts, or it doesn't

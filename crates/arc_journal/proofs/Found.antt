@@ -1,22 +1,20 @@
 -- What is found in an image of a journal, and what an append makes of it.
-use Rattle.std.proofs.Common.{◌≡◌, ◌≢◌, ◌⊎◌, inl, inr, ⊎_elim, ℕ, zero, suc, ◌+◌, ◌^◌, ◌≤◌, ◌<◌, nat_lt, nat_le, ◌&&◌, ◌==◌, if◌then◌else◌, Bool, true, false, Option, None, Some, List, [], ◌∷◌, ◌++◌, length, get_or, take, drop, map, refl, sym, ◌∙◌, ap, subst, arith, append_assoc, length-append}
+use Rattle.std.proofs.Common.{◌≡◌, ◌≢◌, ◌⊎◌, inl, inr, ⊎_elim, ℕ, suc, ◌+◌, ◌^◌, ◌≤◌, ◌<◌, nat_lt, nat_le, ◌&&◌, ◌==◌, if◌then◌else◌, true, false, Option, None, Some, List, [], ◌∷◌, ◌++◌, length, take, drop, map, refl, sym, ◌∙◌, ap, subst, arith, append_assoc, length-append}
 use Rattle.std.proofs.lemmas.List.{take_at, drop_at}
 use Rattle.std.proofs.lemmas.Bool.Decides.{nat_tests}
 use Rattle.std.proofs.lemmas.Slice.Eq.{bytes_eq-Decides}
 use Rattle.std.specs.Int.{w32, from_be_bytes}
 use Rattle.std.specs.List.{filter_map, cons_option}
-
 use Rattle.std.specs.Str.{bytes_eq}
 use Rattle.sha2.specs.Sha256.{sha256}
 use Rattle.arc_bytes.specs.Numbers.{number_bytes}
 use Rattle.arc_command.specs.declared.record.Record.{Record}
 use Rattle.arc_command.specs.Spelling.{record_bytes}
-use Rattle.arc_journal.specs.declared.end.JournalEnd.{JournalEnd}
 use Rattle.arc_journal.specs.Bodies.{record_of}
 use Rattle.arc_journal.specs.Layout.{signature, head, sealed, entries, entry_limit, IsImageOf}
 use Rattle.arc_journal.specs.Torn.{staged, opened, TornInTurn}
-use Rattle.arc_journal.specs.Image.{Entry, body_len, body_in, stored_digest, entry_len, entries_from, entries_of, records_of, is_whole, is_below, is_below_or_none, entry_fault, first_of, fault_in, common, slots_in, head_fault, first_fault, AreKept, IsKept, IsJournalOf}
-use Rattle.arc_journal.proofs.Appending.{longer, staged_keeps, torn_in_turn, opened_counts}
+use Rattle.arc_journal.specs.Image.{Entry, body_len, body_in, stored_digest, entry_len, entries_from, entries_of, records_of, is_whole, is_below_or_none, entry_fault, first_of, fault_in, common, slots_in, head_fault, first_fault, AreKept, IsKept, IsJournalOf}
+use Rattle.arc_journal.proofs.Appending.{staged_keeps, torn_in_turn, opened_counts}
 use Rattle.arc_journal.proofs.Entries.{length-number, number_back, length-sealed, body_len-sealed, body_in-sealed, stored-sealed, drop-sealed}
 use Rattle.arc_journal.proofs.Walking.{at_open, at_closed, kept_push, length-push, map-push}
 
@@ -24,7 +22,7 @@ use Rattle.arc_journal.proofs.Walking.{at_open, at_closed, kept_push, length-pus
 
 found : (slots place : ℕ) (r : Record) (rest : List ℕ) → IsKept slots r
     → entries_from 0 place (1 ∷ sealed (record_bytes r) ++ rest)
-      ≡ record { place = place; bytes = sealed (record_bytes r) ++ rest } ∷ entries_from 0 (place + 1 + entry_len (sealed (record_bytes r) ++ rest)) rest
+    ≡ record { place = place; bytes = sealed (record_bytes r) ++ rest } ∷ entries_from 0 (place + 1 + entry_len (sealed (record_bytes r) ++ rest)) rest
 found slots place r rest kept =
     at_open place (sealed (record_bytes r) ++ rest)
     ∙ ap (λ (l : List ℕ). record { place = place; bytes = sealed (record_bytes r) ++ rest } ∷ entries_from 0 (place + 1 + entry_len (sealed (record_bytes r) ++ rest)) l)

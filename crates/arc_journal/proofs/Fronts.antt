@@ -1,8 +1,8 @@
 -- A list of a front, a gate and what stands behind it, when something is written behind the gate or over it.
-use Rattle.std.proofs.Common.{◌≡◌, ℕ, ◌+◌, ◌≤◌, ◌<◌, List, [], ◌∷◌, ◌++◌, length, get_or, take, drop, refl, sym, ◌∙◌, ap, arith, append_assoc, length-append, take-append-drop}
+use Rattle.std.proofs.Common.{◌≡◌, ℕ, ◌+◌, ◌<◌, List, [], ◌∷◌, ◌++◌, length, get_or, take, drop, sym, ◌∙◌, ap, arith, append_assoc, length-append, take-append-drop}
 use Rattle.std.proofs.lemmas.List.{take_at, drop_at, drop_more}
 use Rattle.arc_disk.specs.Disk.{Torn, written}
-use Rattle.arc_journal.specs.Torn.{staged, opened}
+use Rattle.arc_journal.specs.Torn.{staged}
 
 module _ (front : List ℕ) (at gate : ℕ) (is_at : length front ≡ at) where
   with_gate : length (front ++ gate ∷ []) ≡ at + 1

@@ -1,5 +1,5 @@
 -- How a run of device calls goes on.
-use Rattle.std.proofs.Common.{inl, inr, ⊎_elim, refl, ◌≡◌, ℕ, ◌+◌, ◌≤◌, List, length, take, drop, arith}
+use Rattle.std.proofs.Common.{inl, inr, ⊎_elim, refl, ℕ, ◌≤◌, List, arith}
 use Rattle.arc_disk.specs.Disk.{Elapses, LeavesOnly, Torn}
 
 -- what isn't written at all is torn nowhere

@@ -1,5 +1,5 @@
 -- A journal that was opened, and the ends of openings.
-use Rattle.std.proofs.Common.{◌≡◌, ◌≢◌, ℕ, ◌+◌, ◌*◌, ◌≤◌, false, Option, None, Some, List, [], ◌∷◌, ◌++◌, length, take, drop, map, refl, sym, ◌∙◌, ap, subst, arith, length-append}
+use Rattle.std.proofs.Common.{◌≡◌, ◌≢◌, ℕ, ◌+◌, ◌*◌, ◌≤◌, false, Option, None, Some, List, [], ◌∷◌, ◌++◌, length, map, refl, sym, ◌∙◌, ap, subst, arith, length-append}
 use Rattle.std.proofs.lemmas.List.{append-nil, drop_all}
 use Rattle.arc_disk.specs.Disk.{Only, written}
 use Rattle.arc_command.specs.declared.record.Record.{Record}
@@ -7,10 +7,10 @@ use Rattle.arc_command.specs.Spelling.{record_bytes}
 use Rattle.arc_journal.specs.declared.end.JournalEnd.{JournalEnd}
 use Rattle.arc_journal.specs.declared.end.JournalEnd.TheVariants.{Disk, NotOurs, Rotten, Memory}
 use Rattle.arc_journal.specs.declared.journal.Journal.{Journal}
-use Rattle.arc_journal.specs.Layout.{head, sealed, entries, entry_limit}
+use Rattle.arc_journal.specs.Layout.{head, sealed, entries}
 use Rattle.arc_journal.specs.Runs.{IsRun, NoStopWithin, OpensInRun}
-use Rattle.arc_journal.specs.Image.{records_of, slots_in, IsCausedBy, IsNoRefusal, AreKept, IsJournalOf}
-use Rattle.arc_journal.specs.Journal.{disk_of, node_of, slots_of, count_of, place_of, Stands, IsSettled, IsNew}
+use Rattle.arc_journal.specs.Image.{IsCausedBy, IsNoRefusal, AreKept, IsJournalOf}
+use Rattle.arc_journal.specs.Journal.{disk_of, node_of, slots_of, count_of, place_of, IsSettled}
 use Rattle.arc_journal.proofs.Entries.{length-sealed}
 use Rattle.arc_journal.proofs.Found.{journal_records, journal_slots}
 use Rattle.arc_journal.proofs.Standing.{with_records_of}

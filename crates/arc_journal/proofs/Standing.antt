@@ -1,16 +1,14 @@
 -- A journal that stands, before and after an append.
-use Rattle.std.proofs.Common.{◌≡◌, ◌⊎◌, inl, inr, ⊎_elim, ℕ, ◌+◌, ◌*◌, ◌≤◌, ◌<◌, List, [], ◌∷◌, ◌++◌, length, map, refl, sym, ◌∙◌, ap, subst, arith, append_assoc, length-append}
-use Rattle.arc_disk.specs.Disk.{Only, LeavesOnly}
+use Rattle.std.proofs.Common.{◌≡◌, ⊎_elim, ℕ, ◌+◌, ◌<◌, List, [], ◌∷◌, ◌++◌, length, map, sym, ◌∙◌, ap, subst, arith, length-append}
+use Rattle.arc_disk.specs.Disk.{Only}
 use Rattle.arc_command.specs.declared.record.Record.{Record}
 use Rattle.arc_command.specs.Spelling.{record_bytes}
 use Rattle.arc_journal.specs.Layout.{head, sealed, entries, entry_limit}
 use Rattle.arc_journal.specs.Torn.{staged, opened, TornInTurn, IsGateShut}
 use Rattle.arc_journal.specs.Image.{records_of, IsKept, IsJournalOf}
-use Rattle.arc_journal.specs.Journal.{disk_of, node_of, slots_of, count_of, place_of, Stands, IsSettled, IsBeforeOrWith}
+use Rattle.arc_journal.specs.Journal.{disk_of, node_of, slots_of, count_of, place_of, Stands, IsBeforeOrWith}
 use Rattle.arc_journal.specs.declared.journal.Journal.{Journal}
-use Rattle.arc_journal.proofs.Entries.{length-sealed}
 use Rattle.arc_journal.proofs.Found.{length-head, journal_records, appended_in_turn, appended_behind, appended_at_last}
-use Rattle.arc_journal.proofs.Moments.{widened}
 use Rattle.arc_journal.proofs.Walking.{length-push, spelled_push}
 
 module _ {D : Type 0} (content : D → List ℕ) (may_leave : D → List ℕ → Type 0) where
@@ -41,11 +39,11 @@ module _ {D : Type 0} (content : D → List ℕ) (may_leave : D → List ℕ →
           → IsGateShut content may_leave (disk_of journal) (disk_of new) (place_of journal) payload → Stands content may_leave new records
       still_stands new same_node same_slots same_count same_place shut = record {
         image =
-          subst (λ (n : ℕ). IsJournalOf n (slots_of new) records (content (disk_of new))) (sym same_node)
-          (subst (λ (n : ℕ). IsJournalOf (node_of journal) n records (content (disk_of new))) (sym same_slots)
-          (⊎_elim (λ same. subst (IsJournalOf (node_of journal) (slots_of journal) records) (sym same) stands.image)
-          (λ written. appended_behind (node_of journal) (slots_of journal) records (content (disk_of journal)) stands.image r kept below (place_of journal) stands.place (content (disk_of new))
-          (written ∙ ap (staged (content (disk_of journal)) (place_of journal)) is_payload)) shut.reads));
+            subst (λ (n : ℕ). IsJournalOf n (slots_of new) records (content (disk_of new))) (sym same_node)
+            (subst (λ (n : ℕ). IsJournalOf (node_of journal) n records (content (disk_of new))) (sym same_slots)
+            (⊎_elim (λ same. subst (IsJournalOf (node_of journal) (slots_of journal) records) (sym same) stands.image)
+            (λ written. appended_behind (node_of journal) (slots_of journal) records (content (disk_of journal)) stands.image r kept below (place_of journal) stands.place (content (disk_of new))
+            (written ∙ ap (staged (content (disk_of journal)) (place_of journal)) is_payload)) shut.reads));
         count = same_count ∙ stands.count;
         place = same_place ∙ stands.place;
         durable = shut.durable;
@@ -56,10 +54,10 @@ module _ {D : Type 0} (content : D → List ℕ) (may_leave : D → List ℕ →
           → Stands content may_leave new (records ++ r ∷ [])
       stands_with_it new same_node same_slots one_more further written durable = record {
         image =
-          subst (λ (n : ℕ). IsJournalOf n (slots_of new) (records ++ r ∷ []) (content (disk_of new))) (sym same_node)
-          (subst (λ (n : ℕ). IsJournalOf (node_of journal) n (records ++ r ∷ []) (content (disk_of new))) (sym same_slots)
-          (appended_at_last (node_of journal) (slots_of journal) records (content (disk_of journal)) stands.image r kept below (place_of journal) stands.place (content (disk_of new))
-          (written ∙ ap (opened (content (disk_of journal)) (place_of journal)) is_payload)));
+            subst (λ (n : ℕ). IsJournalOf n (slots_of new) (records ++ r ∷ []) (content (disk_of new))) (sym same_node)
+            (subst (λ (n : ℕ). IsJournalOf (node_of journal) n (records ++ r ∷ []) (content (disk_of new))) (sym same_slots)
+            (appended_at_last (node_of journal) (slots_of journal) records (content (disk_of journal)) stands.image r kept below (place_of journal) stands.place (content (disk_of new))
+            (written ∙ ap (opened (content (disk_of journal)) (place_of journal)) is_payload)));
         count = omega (arith, one_more, stands.count, length-push records r);
         place = omega (arith, further, stands.place, ap length is_payload, length-append (sealed (record_bytes r)) (0 ∷ []), ap length (spelled_push records r), length-append (entries (map record_bytes records)) (1 ∷ sealed (record_bytes r)));
         durable = durable;

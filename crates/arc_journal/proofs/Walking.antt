@@ -1,7 +1,7 @@
 -- One entry more was read.
 use Rattle.std.proofs.Common.{◌≡◌, ◌≢◌, ℕ, zero, suc, ◌+◌, ◌≤◌, ◌<◌, Option, None, Some, List, [], ◌∷◌, ◌++◌, length, get_or, take, drop, map, refl, sym, ◌∙◌, ap, subst, arith, append_assoc, length-append, length-drop, take-append-drop, add-zero}
 use Rattle.std.proofs.Math.Seq.{take-add}
-use Rattle.std.proofs.lemmas.List.{take_at, drop_at, drop_more, drop-drop, length-take-le}
+use Rattle.std.proofs.lemmas.List.{take_at, drop_more, drop-drop}
 use Rattle.std.proofs.lemmas.Bool.Decides.{nat_tests}
 use Rattle.arc_command.specs.declared.record.Record.{Record}
 use Rattle.arc_command.specs.Spelling.{record_bytes}
@@ -106,15 +106,16 @@ module _ (slots : ℕ) (records : List Record) (place : ℕ) (image : List ℕ) 
         where
           one_more : 1 + len ≡ suc len
           one_more = omega arith
+
           heads : take (1 + len) (1 ∷ bytes) ≡ 1 ∷ sealed (record_bytes r)
           heads = ap (λ (n : ℕ). take n (1 ∷ bytes)) one_more ∙ ap (λ (l : List ℕ). 1 ∷ l) sealed_there
 
       pub read_more : length records < entry_limit slots → IsReadTo slots (records ++ r ∷ []) (place + (1 + len)) image
       read_more room = record {
         front =
-          taken ∙ ap (λ (l : List ℕ). l ++ 1 ∷ sealed (record_bytes r)) so_far.front
-          ∙ append_assoc (take 16 image) (entries (map record_bytes records)) (1 ∷ sealed (record_bytes r))
-          ∙ ap (λ (l : List ℕ). take 16 image ++ l) (sym (spelled_push records r));
+            taken ∙ ap (λ (l : List ℕ). l ++ 1 ∷ sealed (record_bytes r)) so_far.front
+            ∙ append_assoc (take 16 image) (entries (map record_bytes records)) (1 ∷ sealed (record_bytes r))
+            ∙ ap (λ (l : List ℕ). take 16 image ++ l) (sym (spelled_push records r));
         kept = kept_push slots records r so_far.kept entry.kept;
         room = omega (arith, length-push records r, room);
         within = omega (arith, entry.within, is_len, length-drop (place + 1) image, so_far.within);
@@ -152,7 +153,7 @@ goes_on slots records items place len count image rest r whole so_far is_open fa
     record {
       so_far = subst (λ (l : List Record). IsReadTo slots l (place + (1 + len)) image) (sym is_items) (read_more slots records place image so_far is_open r len is_len here below);
       faults = faults ∙ faults_behind slots records place image so_far is_open r len is_len here (length records) faultless
-        ∙ ap (λ (n : ℕ). fault_in slots n (entries_from 0 (place + (1 + len)) (drop (place + (1 + len)) image))) longer;
+          ∙ ap (λ (n : ℕ). fault_in slots n (entries_from 0 (place + (1 + len)) (drop (place + (1 + len)) image))) longer;
     }
 
 pub is_journal : (node slots : ℕ) (records : List Record) (place : ℕ) (image : List ℕ) → 1 ≤ slots → slots ≤ 16384 → take 16 image ≡ head node slots
@@ -167,8 +168,8 @@ is_journal node slots records place image some most is_head so_far closed = reco
     ignored = drop (place + 1) image;
     closed = closed;
     bytes =
-      sym (take-append-drop place image)
-      ∙ ap (λ (l : List ℕ). l ++ drop place image) (so_far.front ∙ ap (λ (l : List ℕ). l ++ entries (map record_bytes records)) is_head)
-      ∙ ap (λ (l : List ℕ). (head node slots ++ entries (map record_bytes records)) ++ l) (gate_there slots records place image so_far);
+        sym (take-append-drop place image)
+        ∙ ap (λ (l : List ℕ). l ++ drop place image) (so_far.front ∙ ap (λ (l : List ℕ). l ++ entries (map record_bytes records)) is_head)
+        ∙ ap (λ (l : List ℕ). (head node slots ++ entries (map record_bytes records)) ++ l) (gate_there slots records place image so_far);
   };
 }

@@ -6,7 +6,7 @@ use Rattle.std.specs.Str.{bytes_eq}
 use Rattle.sha2.specs.Sha256.{sha256}
 use Rattle.arc_command.specs.declared.record.Record.{Record}
 use Rattle.arc_command.specs.declared.record.Record.TheVariants.{Opened, Promised, Voted, Closed}
-use Rattle.arc_journal.specs.Layout.{signature, head, sealed, entries, entry_limit, IsImageOf}
+use Rattle.arc_journal.specs.Layout.{signature, sealed, entries, entry_limit, IsImageOf}
 use Rattle.arc_command.specs.Spelling.{record_bytes}
 use Rattle.arc_journal.specs.Bodies.{record_of}
 use Rattle.arc_journal.specs.declared.end.JournalEnd.{JournalEnd}

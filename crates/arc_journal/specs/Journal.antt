@@ -1,5 +1,5 @@
 -- What a journal shows, and what its calls make of it.
-use Rattle.std.specs.Prelude.{ℕ, ◌≡◌, ◌⊎◌, ◌+◌, ◌*◌, ◌<◌, ◌≤◌, Bool, true, false, Option, List, [], ◌∷◌, ◌++◌, length, map, Result, Ok, Err}
+use Rattle.std.specs.Prelude.{ℕ, ◌≡◌, ◌⊎◌, ◌+◌, ◌*◌, ◌<◌, ◌≤◌, true, false, Option, List, [], ◌∷◌, ◌++◌, length, map, Result, Ok, Err}
 use Rattle.arc_bytes.specs.Counts.{HasRisen}
 use Rattle.arc_disk.specs.Disk.{Only}
 use Rattle.arc_command.specs.declared.record.Record.{Record}

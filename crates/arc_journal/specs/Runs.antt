@@ -1,5 +1,5 @@
 -- Runs of device calls: how many there were, and what became of the clock, the count of faults and the stop.
-use Rattle.std.specs.Prelude.{ℕ, zero, suc, ◌≡◌, ◌≤◌, ◌<◌, ◌-◌, ◌+◌, Bool, true, false, IsTrue, Option, None, Some, Result, Ok, Err}
+use Rattle.std.specs.Prelude.{ℕ, zero, suc, ◌≡◌, ◌≤◌, ◌<◌, ◌-◌, Bool, true, false, IsTrue, Option, None, Some, Result, Ok, Err}
 use Rattle.arc_bytes.specs.Counts.{next_count}
 use Rattle.arc_disk.specs.Calls.{Counted}
 use Rattle.arc_disk.specs.declared.disk.WriteEnd.{WriteEnd}

@@ -27,9 +27,7 @@ pub enum AppendEnd {
     /// appended to this journal.
     Disk,
     /// The journal has as many entries as it takes.
-    Full {
-        count: u32,
-    },
+    Full { count: u32 },
     /// There was no memory left. The journal is as it was.
     Memory,
 }

@@ -201,11 +201,7 @@ pub(crate) struct Opening {
 
 /// Reads an image as a journal of this node.
 #[tactic(auto, unfolding(crate::specs::Image::first_fault))]
-pub(crate) fn read_journal(
-    alloc: Global,
-    image: &[u8],
-    node: u8,
-) -> Result<Opening, JournalEnd>
+pub(crate) fn read_journal(alloc: Global, image: &[u8], node: u8) -> Result<Opening, JournalEnd>
     ensures own { IfErr result (λ e. e ≢ JournalEnd.Disk) }
     ensures fault { IsCausedBy (ending_of result) (first_fault node image.now) }
     ensures journal { IfOk result (λ o. IsJournalOf node o.max_slots o.records.items image.now) }

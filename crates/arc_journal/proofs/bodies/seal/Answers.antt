@@ -1,5 +1,5 @@
 -- The buffer gets a number of four bytes, the body, the body's length over that number, the digest and a closed gate.
-use Rattle.std.proofs.Common.{◌≡◌, ◌+◌, ◌-◌, ◌++◌, ℕ, List, length, drop, rules, arith, ap, ◌∙◌, length-append}
+use Rattle.std.proofs.Common.{◌≡◌, ◌-◌, ℕ, length, drop, rules, arith, ap, length-append}
 use Rattle.std.specs.Int.{w32}
 use Rattle.arc_bytes.specs.Numbers.{number_bytes}
 use Rattle.arc_command.specs.Spelling.{record_bytes}

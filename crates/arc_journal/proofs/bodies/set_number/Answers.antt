@@ -1,9 +1,8 @@
 -- The bytes that were lent are the buffer's.
-use Rattle.std.proofs.Common.{◌≡◌, ◌≤◌, ◌++◌, ℕ, List, length, drop, arith, ap, ◌∙◌, length-append, length-drop}
-use Rattle.std.proofs.lemmas.List.{take_at}
+use Rattle.std.proofs.Common.{◌≤◌, ◌++◌, ℕ, List, length, drop, arith, ap, ◌∙◌}
 use Rattle.std.specs.Int.{w32}
 use Rattle.arc_bytes.specs.Numbers.{number_bytes}
-use Rattle.arc_journal.proofs.Entries.{length-number, written_back}
+use Rattle.arc_journal.proofs.Entries.{written_back}
 use Rattle.arc_journal.proofs.bodies.set_number.Goals as goal
 
 pub returns : goal.returns

@@ -1,5 +1,5 @@
 -- The calls are counted one by one.
-use Rattle.std.proofs.Common.{◌≤◌, true, false, arith}
+use Rattle.std.proofs.Common.{true, false, arith}
 use Rattle.arc_journal.proofs.RunLemmas.{well_first, one_behind, well_behind}
 use Rattle.arc_journal.proofs.device.read_image.Goals as goal
 

@@ -1,5 +1,5 @@
 -- At each moment a crash leaves the old image, torn in the range.
-use Rattle.std.proofs.Common.{◌≡◌, ◌≤◌, true, List, ℕ, length, sym, subst, arith}
+use Rattle.std.proofs.Common.{true, List, ℕ, length, sym, subst, arith}
 use Rattle.arc_disk.specs.Disk.{Torn}
 use Rattle.arc_journal.proofs.Moments.{torn_nowhere, started, goes_on}
 use Rattle.arc_journal.proofs.RunLemmas.{well_first, one_behind}

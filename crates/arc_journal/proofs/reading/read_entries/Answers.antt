@@ -1,5 +1,5 @@
 -- Each entry that was read is followed by what was left, and a fault of the next one is the first.
-use Rattle.std.proofs.Common.{◌≡◌, ◌+◌, List, ℕ, length, drop, rules}
+use Rattle.std.proofs.Common.{◌≡◌, ◌+◌, length, rules}
 use Rattle.std.proofs.lemmas.List.{take_rest}
 use Rattle.arc_journal.specs.Image.{entries_of, fault_in}
 use Rattle.arc_journal.proofs.Walking.{ends_here, fails_here, goes_on}

@@ -1,6 +1,6 @@
 -- The parts that were read are those of an entry.
-use Rattle.std.proofs.Common.{◌≡◌, ◌<◌, get_or, arith, List, ℕ, true, rules, sym, ◌∙◌}
-use Rattle.std.proofs.lemmas.Slice.Eq.{bytes_eq-Decides, slice_eq-Decides}
+use Rattle.std.proofs.Common.{◌≡◌, ◌<◌, get_or, arith, ℕ, true, rules, sym, ◌∙◌}
+use Rattle.std.proofs.lemmas.Slice.Eq.{bytes_eq-Decides}
 use Rattle.arc_journal.specs.Image.{is_below}
 use Rattle.sha2.specs.Sha256.{sha256}
 use Rattle.arc_journal.proofs.Entries.{entry_is}

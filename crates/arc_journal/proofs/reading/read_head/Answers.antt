@@ -1,7 +1,7 @@
 -- The head is the signature and the number.
-use Rattle.std.proofs.Common.{◌≡◌, ◌+◌, ◌≤◌, ◌<◌, ◌++◌, get_or, Ok, Err, true, false, List, ℕ, length, take, drop, rules, arith, sym, ◌∙◌, ap, subst}
+use Rattle.std.proofs.Common.{◌≡◌, ◌+◌, ◌≤◌, ◌<◌, ◌++◌, get_or, Ok, List, ℕ, length, take, drop, rules, arith, sym, ◌∙◌, ap, subst}
 use Rattle.std.proofs.Math.Seq.{take-add}
-use Rattle.std.specs.Int.{w32, from_be_bytes}
+use Rattle.std.specs.Int.{w32}
 use Rattle.std.proofs.lemmas.Bool.Decides.{nat_tests}
 use Rattle.arc_bytes.specs.Numbers.{number_at, number_bytes}
 use Rattle.arc_journal.specs.Image.{common, slots_in}

@@ -1,7 +1,7 @@
 -- What was read is the image that the disk has, and by its bytes the journal is found or refused.
-use Rattle.std.proofs.Common.{◌≡◌, ◌++◌, ◌∷◌, [], List, ℕ, length, refl, sym, ◌∙◌, ap, subst, rules}
+use Rattle.std.proofs.Common.{◌≡◌, length, sym, ◌∙◌, ap, subst, rules}
 use Rattle.arc_journal.specs.declared.journal.Journal.{Journal}
-use Rattle.arc_journal.specs.Image.{IsCausedBy, IsJournalOf, first_fault, records_of}
+use Rattle.arc_journal.specs.Image.{IsJournalOf, first_fault, records_of}
 use Rattle.arc_journal.proofs.Found.{journal_records, journal_faultless}
 use Rattle.arc_journal.proofs.OpeningLemmas.{no_refusal_caused, no_refusal_faultless, opens_with_all, one_journal, settled_by}
 use Rattle.arc_journal.proofs.journal.Journal.adopt.Goals as goal

@@ -1,9 +1,9 @@
 -- What the append leaves at each moment, and how the journal stands after it.
-use Rattle.std.proofs.Common.{◌≡◌, ◌+◌, ◌*◌, ◌≤◌, ◌<◌, ℕ, List, [], ◌∷◌, ◌++◌, length, Err, refl, sym, ◌∙◌, ap, rules, arith}
-use Rattle.arc_journal.specs.Image.{IsKept, records_of}
+use Rattle.std.proofs.Common.{◌≡◌, ◌+◌, ◌≤◌, ◌<◌, ℕ, [], ◌∷◌, ◌++◌, length, Err, refl, ◌∙◌, ap, rules, arith}
+use Rattle.arc_journal.specs.Image.{records_of}
 use Rattle.arc_journal.specs.Layout.{entry_limit}
 use Rattle.arc_journal.specs.Torn.{TornInTurn}
-use Rattle.arc_journal.specs.Journal.{disk_of, node_of, slots_of, count_of, place_of, IsBeforeOrWith}
+use Rattle.arc_journal.specs.Journal.{slots_of, count_of, IsBeforeOrWith}
 use Rattle.arc_command.specs.Spelling.{record_bytes}
 use Rattle.arc_journal.specs.declared.journal.Journal.{Journal}
 use Rattle.arc_journal.proofs.Entries.{payload_is_short}

@@ -1,6 +1,5 @@
 -- The image of a journal without entries was written, and synced.
-use Rattle.std.proofs.Common.{◌≡◌, ◌++◌, ◌∷◌, [], List, ℕ, refl, ◌∙◌, ap}
-use Rattle.arc_disk.specs.Disk.{written}
+use Rattle.std.proofs.Common.{◌++◌, ◌∷◌, [], refl, ◌∙◌}
 use Rattle.arc_journal.specs.declared.journal.Journal.{Journal}
 use Rattle.arc_journal.specs.Layout.{head}
 use Rattle.arc_journal.proofs.Found.{journal_records}
