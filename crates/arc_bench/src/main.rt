@@ -9,6 +9,7 @@ mod http;
 #![tactic(auto)]
 
 mod turn;
+mod journal;
 
 use std::env;
 use std::io;
@@ -21,5 +22,10 @@ fn main(rt: HostRuntime) -> io::Result<()> {
     match word.as_ref().map(|w| w.as_str()) {
         Some("turn") => turn::measure(&rt, rt.alloc()),
         _ => println!(rt; "measurements: turn"),
+    let mut words = env::args(&rt)?;
+    let word = words.nth(1);
+    match word.as_ref().map(|word| word.as_str()) {
+        Some("journal") => journal::measure(&rt, words.next()),
+        _ => println!(rt; "arc_bench: one measurement, named by a word"),
     }
 }

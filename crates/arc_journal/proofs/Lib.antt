@@ -1,0 +1,10 @@
+pub mod Moments
+pub mod RunLemmas
+pub mod Fronts
+pub mod Appending
+pub mod Commons
+pub mod Entries
+pub mod Walking
+pub mod Found
+pub mod Standing
+pub mod OpeningLemmas

@@ -1,0 +1,30 @@
+//! Journals: the entries of one node, each on its disk before anybody hears of it.
+//!
+//! It stands on `arc_disk` for the disk, on `arc_command` for the bytes of records, and on `sha2` for digests. A node
+//! stands on it.
+//!
+//! The law that it keeps: at each moment since an append began, a crash leaves a journal with the entries from before, or
+//! with the new one behind them; after its Ok, with the new one alone. Opening a journal finds exactly those entries.
+//!
+//! What the caller owes: an empty disk for a new journal, and no append behind one that met a fault of the disk.
+//!
+//! The bytes: a head of 16 (`ARCJRNL`, the version 1, the node, three bytes 0, and the greatest length of the list in
+//! four bytes), and behind it entries. An entry is a gate byte, the length of its body in four bytes, the body, and the
+//! SHA-256 of the body. It counts where its gate byte is 1. The first gate byte that isn't 1 ends the entries, and what
+//! follows it is ignored. Numbers stand with the highest byte first.
+//!
+//! No digest is trusted to end the entries: the gate stands closed on the disk before anything is written behind it, and
+//! is opened by a write of its own after a sync.
+#![tactic(auto)]
+
+mod bodies;
+mod device;
+mod end;
+mod journal;
+mod reading;
+
+pub use end::{AppendEnd, JournalEnd};
+pub use journal::Journal;
+
+#[cfg(test)]
+mod tests;
