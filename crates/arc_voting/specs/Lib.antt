@@ -1,0 +1,10 @@
+pub mod Votes
+pub mod Journals
+pub mod Lists
+pub mod Chosen
+pub mod Formed
+pub mod Settled
+pub mod Ids
+pub mod Sound
+pub mod Turn
+pub mod Lawful
