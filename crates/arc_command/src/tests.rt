@@ -100,16 +100,7 @@ fn a_copy_shows_what_its_original_shows(rt: HostRuntime) -> Result<(), Fail> {
             "UpdateRoutingControlState { batch: Batch { entries: List { items: [Entry { control: ControlId(5), on: true }] }, overrides: List { items: [RuleId(7), RuleId(7)] } } }",
         ),
     ] {
-        let command = Command {
-            id: CommandId {
-                node: 4,
-                inc: 1,
-                n: 2,
-            },
-            at_ms: MAX_MS,
-            token: 6,
-            op,
-        };
+        let command = command_of(op);
         let copy = command.copy(alloc)?;
         assert_eq!(rt; copy.id, command.id);
         assert_eq!(rt; copy.at_ms, MAX_MS);
@@ -117,4 +108,45 @@ fn a_copy_shows_what_its_original_shows(rt: HostRuntime) -> Result<(), Fail> {
         assert_eq!(rt; format!(in alloc; "{:?}", copy.op)?.as_str(), shown);
     }
     Ok(())
+}
+
+#[test]
+fn commands_and_entries_equal_themselves_alone(rt: HostRuntime) -> Result<(), Fail> {
+    let alloc = rt.alloc();
+    for (entries, overrides, equal) in [
+        (1usize, 2usize, true),
+        (1, 1, false),
+        (1, 3, false),
+        (2, 2, false),
+    ] {
+        let command = command_of(update(alloc, 1, 2)?);
+        let other = command_of(update(alloc, entries, overrides)?);
+        assert_eq!(rt; command.equals(&other), equal);
+        let vote = Record::Voted {
+            slot: 4,
+            ballot: 6,
+            command,
+        };
+        let other = Record::Voted {
+            slot: 4,
+            ballot: 6,
+            command: other,
+        };
+        assert_eq!(rt; vote.equals(&other), equal);
+    }
+    Ok(())
+}
+
+/// A command with this operation.
+fn command_of(op: Op) -> Command {
+    Command {
+        id: CommandId {
+            node: 4,
+            inc: 1,
+            n: 2,
+        },
+        at_ms: MAX_MS,
+        token: 6,
+        op,
+    }
 }
