@@ -5,6 +5,9 @@ pub mod Chosen
 pub mod Formed
 pub mod Settled
 pub mod Ids
+pub mod Rules
+pub mod Parts
 pub mod Sound
+pub mod Walk
 pub mod Turn
 pub mod Lawful

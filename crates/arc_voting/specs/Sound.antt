@@ -7,18 +7,14 @@ use Rattle.arc_command.specs.declared.record.Record.TheVariants.{Opened, Promise
 use Rattle.arc_voting.specs.declared.breach.Breach.{Breach}
 use Rattle.arc_voting.specs.declared.breach.AuditEnd.{AuditEnd}
 use Rattle.arc_voting.specs.declared.breach.AuditEnd.TheVariants as end
-use Rattle.arc_voting.specs.Journals.{Journals}
-use Rattle.arc_voting.specs.Chosen.{HoldsVote, IsChosen}
+use Rattle.arc_voting.specs.declared.rule.Rule.{Rule}
+use Rattle.arc_voting.specs.declared.rule.Rule.TheVariants.{V1, V2, V3, V4, V5, V6}
+use Rattle.arc_voting.specs.Rules.{number_of}
+use Rattle.arc_voting.specs.Journals.{Journals, promises_of}
+use Rattle.arc_voting.specs.Chosen.{OnVote, HoldsVote, IsChosen}
 use Rattle.arc_voting.specs.Formed.{Fits}
 use Rattle.arc_voting.specs.Settled.{LowerAreSettled}
 use Rattle.arc_voting.specs.Ids.{StartsAtItsNode, HasNoEarlierDouble, IsNotChosenBelow}
-
--- A fact of an entry that is a vote; of any other entry it asks nothing.
-abbrev pub OnVote : Record → (ℕ → ℕ → Command → Type 0) → Type 0
-OnVote (Opened inc) P = ⊤
-OnVote (Promised from ballot) P = ⊤
-OnVote (Voted slot ballot c) P = P slot ballot c
-OnVote (Closed slot c) P = ⊤
 
 -- A fact of an entry that closes a slot; of any other entry it asks nothing.
 abbrev pub OnClosed : Record → (ℕ → Command → Type 0) → Type 0
@@ -31,10 +27,15 @@ OnClosed (Closed slot c) P = P slot c
 abbrev pub OnVoteAt : List Record → ℕ → (ℕ → ℕ → Command → Type 0) → Type 0
 OnVoteAt journal place P = IfSome (slice_get journal place) (λ entry. OnVote entry P)
 
+-- The entry at this place fits those before it, where five journals have so many promises. An empty journal lacks its
+-- first entry.
+abbrev pub IsWellFormedIn : ℕ → List Record → ℕ → Type 0
+IsWellFormedIn promises journal place =
+    MatchOption (slice_get journal place) (0 < place) (λ entry. Fits promises (take place journal) entry)
+
 -- V1, well-formed journal: the entry fits those before it. An empty journal breaks this at place 0.
 abbrev pub IsWellFormed : Journals → ℕ → ℕ → Type 0
-IsWellFormed js node place =
-    MatchOption (slice_get (js node) place) (0 < place) (λ entry. Fits js (take place (js node)) entry)
+IsWellFormed js node = IsWellFormedIn (promises_of js) (js node)
 
 -- V2, the ballot's owner voted too: a vote stands in the journal of node `ballot % 5`.
 abbrev pub OwnerVotedToo : Journals → ℕ → ℕ → Type 0
@@ -58,23 +59,6 @@ CommandStartsAtItsNode js node place =
 abbrev pub IdIsNotChosenTwice : Journals → ℕ → ℕ → Type 0
 IdIsNotChosenTwice js node place = OnVoteAt (js node) place (λ slot ballot c. IsNotChosenBelow js slot c)
 
--- The six rules.
-pub data Rule : Type 0 where
-  V1 : Rule
-  V2 : Rule
-  V3 : Rule
-  V4 : Rule
-  V5 : Rule
-  V6 : Rule
-
-abbrev pub number_of : Rule → ℕ
-number_of V1 = 1
-number_of V2 = 2
-number_of V3 = 3
-number_of V4 = 4
-number_of V5 = 5
-number_of V6 = 6
-
 -- The entry at this node and place keeps the rule.
 abbrev pub Keeps : Journals → Rule → ℕ → ℕ → Type 0
 Keeps js V1 = IsWellFormed js
@@ -83,6 +67,15 @@ Keeps js V3 = EveryLowerIsSettled js
 Keeps js V4 = WhatIsClosedWasChosen js
 Keeps js V5 = CommandStartsAtItsNode js
 Keeps js V6 = IdIsNotChosenTwice js
+
+-- The vote at this node and place keeps the rule.
+abbrev pub VoteKeeps : Journals → Rule → ℕ → ℕ → ℕ → ℕ → Command → Type 0
+VoteKeeps js V1 node place slot ballot c = ⊤
+VoteKeeps js V2 node place slot ballot c = HoldsVote (js (ballot % 5)) slot ballot c
+VoteKeeps js V3 node place slot ballot c = LowerAreSettled js slot ballot c
+VoteKeeps js V4 node place slot ballot c = ⊤
+VoteKeeps js V5 node place slot ballot c = StartsAtItsNode js c × HasNoEarlierDouble js node place c
+VoteKeeps js V6 node place slot ballot c = IsNotChosenBelow js slot c
 
 -- Five journals are sound: every entry of each of them keeps every rule.
 abbrev pub IsSound : Journals → Type 0
