@@ -7,3 +7,4 @@ pub mod Fives
 pub mod Rulings
 pub mod Lengths
 pub mod Silent
+pub mod Tracking

@@ -1,5 +1,5 @@
 -- What a rule asks of the entry at a place.
-use Rattle.std.proofs.Common.{◌≡◌, ◌≢◌, ℕ, ◌+◌, ◌%◌, ◌<◌, ◌≤◌, ◌⊎◌, ◌↔◌, inl, inr, Bool, true, false, IsTrue, Option, Some, IfSome, List, length, get_or, subst, sym, ◌∙◌, ap, arith, refl}
+use Rattle.std.proofs.Common.{◌≡◌, ◌≢◌, ℕ, ◌+◌, ◌%◌, ◌<◌, ◌≤◌, ◌⊎◌, ◌↔◌, inl, inr, Bool, true, false, IsTrue, Option, Some, None, IfSome, MatchOption, List, length, get_or, subst, sym, ◌∙◌, ap, arith, refl}
 use Rattle.std.specs.List.{slice_get}
 use Rattle.std.proofs.lemmas.Option.{slice_get_read}
 use Rattle.arc_command.specs.declared.command.Command.{Command}
@@ -13,7 +13,7 @@ use Rattle.arc_voting.specs.Journals.{Journals}
 use Rattle.arc_voting.specs.Chosen.{OnVote, HoldsVote, IsChosen}
 use Rattle.arc_voting.specs.Settled.{LowerAreSettled}
 use Rattle.arc_voting.specs.Ids.{StartsAtItsNode, HasNoEarlierDouble, IsNotChosenBelow}
-use Rattle.arc_voting.specs.Sound.{OnClosed, OnVoteAt, VoteKeeps, Keeps, IsFirstBreachOf, IsFirstBreach, StandsBefore}
+use Rattle.arc_voting.specs.Sound.{OnClosed, OnVoteAt, VoteKeeps, Keeps, IsKept, IsSound, IsFirstBreachOf, IsFirstBreach, StandsBefore}
 use Rattle.arc_voting.specs.Walk.{IsFirstUnder}
 
 -- the entry that stands at a place
@@ -124,3 +124,60 @@ pub first_of_all : (js : Journals) (rule : Rule) (breach : Breach) → IsFirstUn
     ((former : Rule) (n p : ℕ) → number_of former < number_of rule → n < 5 → Keeps js former n p) → IsFirstBreach js breach
 first_of_all js rule breach first before =
     (rule, first.0, record { of_five = first.1; broken = first.2; rules_before = before; entries_before = first.3 })
+
+-- what holds of the rules before one holds of each of them
+pub below_V2 : (P : Rule → Type 0) → P V1 → (former : Rule) → number_of former < 2 → P former
+below_V2 P v1 V1 lt = v1
+below_V2 P v1 V2 lt = absurd (omega arith)
+below_V2 P v1 V3 lt = absurd (omega arith)
+below_V2 P v1 V4 lt = absurd (omega arith)
+below_V2 P v1 V5 lt = absurd (omega arith)
+below_V2 P v1 V6 lt = absurd (omega arith)
+
+pub below_V3 : (P : Rule → Type 0) → P V1 → P V2 → (former : Rule) → number_of former < 3 → P former
+below_V3 P v1 v2 V1 lt = v1
+below_V3 P v1 v2 V2 lt = v2
+below_V3 P v1 v2 V3 lt = absurd (omega arith)
+below_V3 P v1 v2 V4 lt = absurd (omega arith)
+below_V3 P v1 v2 V5 lt = absurd (omega arith)
+below_V3 P v1 v2 V6 lt = absurd (omega arith)
+
+pub below_V4 : (P : Rule → Type 0) → P V1 → P V2 → P V3 → (former : Rule) → number_of former < 4 → P former
+below_V4 P v1 v2 v3 V1 lt = v1
+below_V4 P v1 v2 v3 V2 lt = v2
+below_V4 P v1 v2 v3 V3 lt = v3
+below_V4 P v1 v2 v3 V4 lt = absurd (omega arith)
+below_V4 P v1 v2 v3 V5 lt = absurd (omega arith)
+below_V4 P v1 v2 v3 V6 lt = absurd (omega arith)
+
+pub below_V5 : (P : Rule → Type 0) → P V1 → P V2 → P V3 → P V4 → (former : Rule) → number_of former < 5 → P former
+below_V5 P v1 v2 v3 v4 V1 lt = v1
+below_V5 P v1 v2 v3 v4 V2 lt = v2
+below_V5 P v1 v2 v3 v4 V3 lt = v3
+below_V5 P v1 v2 v3 v4 V4 lt = v4
+below_V5 P v1 v2 v3 v4 V5 lt = absurd (omega arith)
+below_V5 P v1 v2 v3 v4 V6 lt = absurd (omega arith)
+
+pub below_V6 : (P : Rule → Type 0) → P V1 → P V2 → P V3 → P V4 → P V5 → (former : Rule) → number_of former < 6 → P former
+below_V6 P v1 v2 v3 v4 v5 V1 lt = v1
+below_V6 P v1 v2 v3 v4 v5 V2 lt = v2
+below_V6 P v1 v2 v3 v4 v5 V3 lt = v3
+below_V6 P v1 v2 v3 v4 v5 V4 lt = v4
+below_V6 P v1 v2 v3 v4 v5 V5 lt = v5
+below_V6 P v1 v2 v3 v4 v5 V6 lt = absurd (omega arith)
+
+-- where all six rules are kept the journals are sound
+pub sound_of : (js : Journals) → IsKept js V1 → IsKept js V2 → IsKept js V3 → IsKept js V4 → IsKept js V5 → IsKept js V6 → IsSound js
+sound_of js v1 v2 v3 v4 v5 v6 V1 = v1
+sound_of js v1 v2 v3 v4 v5 v6 V2 = v2
+sound_of js v1 v2 v3 v4 v5 v6 V3 = v3
+sound_of js v1 v2 v3 v4 v5 v6 V4 = v4
+sound_of js v1 v2 v3 v4 v5 v6 V5 = v5
+sound_of js v1 v2 v3 v4 v5 v6 V6 = v6
+
+-- the last rule's first breach is the first of all, or the journals are sound
+pub last_of_all : (js : Journals) (found : Option Breach) → IsFirstUnder js V6 found →
+    IsKept js V1 → IsKept js V2 → IsKept js V3 → IsKept js V4 → IsKept js V5 → MatchOption found (IsSound js) (IsFirstBreach js)
+last_of_all js None kept v1 v2 v3 v4 v5 = sound_of js v1 v2 v3 v4 v5 kept
+last_of_all js (Some breach) first v1 v2 v3 v4 v5 =
+    first_of_all js V6 breach first (λ former n p lt. below_V6 (IsKept js) v1 v2 v3 v4 v5 former lt n p)

@@ -9,5 +9,6 @@ pub mod Rules
 pub mod Parts
 pub mod Sound
 pub mod Walk
+pub mod Tracks
 pub mod Turn
 pub mod Lawful

@@ -77,9 +77,13 @@ VoteKeeps js V4 node place slot ballot c = ⊤
 VoteKeeps js V5 node place slot ballot c = StartsAtItsNode js c × HasNoEarlierDouble js node place c
 VoteKeeps js V6 node place slot ballot c = IsNotChosenBelow js slot c
 
+-- Every entry keeps the rule.
+abbrev pub IsKept : Journals → Rule → Type 0
+IsKept js rule = (node place : ℕ) → node < 5 → Keeps js rule node place
+
 -- Five journals are sound: every entry of each of them keeps every rule.
 abbrev pub IsSound : Journals → Type 0
-IsSound js = (rule : Rule) (node place : ℕ) → node < 5 → Keeps js rule node place
+IsSound js = (rule : Rule) → IsKept js rule
 
 -- One entry stands before another, by node and then place.
 abbrev pub StandsBefore : ℕ → ℕ → ℕ → ℕ → Type 0

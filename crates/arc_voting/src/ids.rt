@@ -3,11 +3,12 @@ ghost use Rattle.std.specs.Prelude.{◌≡◌, ◌↔◌, ◌<◌, ◌≤◌, �
 ghost use Rattle.arc_command.specs.declared.command.Command.{Command};
 ghost use Rattle.arc_voting.specs.Journals.{journals_of};
 ghost use Rattle.arc_voting.specs.Ids.{VotesFor, VotesSince, StartsAtItsNode, HasNoDouble, HasNoEarlierDouble, IsNotChosenBelow};
+ghost use Rattle.arc_voting.specs.Tracks.{AreTracksOf};
 ghost use Rattle.arc_voting.specs.Parts.{IsNoneChosenBelow, HasNoChosenBelow};
 
 use crate::entries::{has_no_double, votes_for};
 use crate::majority::{each_of_five, is_voted_by_three};
-use crate::slot::whole_slot;
+use crate::track::{Track, slot_at};
 use arc_bytes::Five;
 use arc_command::{Command, Equals, Record};
 
@@ -52,7 +53,8 @@ pub fn has_no_earlier_double(journals: &Five<Vec<Record>>, node: u8, place: usiz
 
 /// Whether this entry isn't a vote, in a slot below this one and with the command's id, that has three of its kind.
 #[tactic(auto, unfolding(crate::specs::Parts::IsNoneChosenBelow))]
-fn is_no_chosen_below(journals: &Five<Vec<Record>>, entry: &Record, slot: u32, command: &Command) -> bool
+fn is_no_chosen_below(journals: &Five<Vec<Record>>, tracks: &Five<Track>, entry: &Record, slot: u32, command: &Command) -> bool
+    requires { AreTracksOf tracks.now (journals_of journals.now) }
     ensures { IsTrue result ↔ IsNoneChosenBelow (journals_of journals.now) slot command.now entry.now }
 {
     match entry {
@@ -64,30 +66,32 @@ fn is_no_chosen_below(journals: &Five<Vec<Record>>, entry: &Record, slot: u32, c
             if slot <= *lower || !its_command.id.equals(&command.id) {
                 return true;
             }
-            !is_voted_by_three(journals, &whole_slot(journals, *lower), *ballot, its_command)
+            !is_voted_by_three(journals, &slot_at(tracks, *lower), *ballot, its_command)
         }
         _ => true,
     }
 }
 
 /// Whether no vote of this node, in a slot below this one and with the command's id, has three of its kind.
-fn has_no_chosen_below(journals: &Five<Vec<Record>>, node: u8, slot: u32, command: &Command) -> bool
-    requires { node < 5 }
+fn has_no_chosen_below(journals: &Five<Vec<Record>>, tracks: &Five<Track>, node: u8, slot: u32, command: &Command) -> bool
+    requires of_five { node < 5 }
+    requires tracked { AreTracksOf tracks.now (journals_of journals.now) }
     ensures { IsTrue result ↔
         HasNoChosenBelow (journals_of journals.now) (journals_of journals.now node) slot command.now }
 {
-    journals.get(node).iter().all(|entry| is_no_chosen_below(journals, entry, slot, command))
+    journals.get(node).iter().all(|entry| is_no_chosen_below(journals, tracks, entry, slot, command))
 }
 
 /// Whether no command with this command's id is chosen in a slot below this one.
-pub fn is_not_chosen_below(journals: &Five<Vec<Record>>, slot: u32, command: &Command) -> bool
+pub fn is_not_chosen_below(journals: &Five<Vec<Record>>, tracks: &Five<Track>, slot: u32, command: &Command) -> bool
+    requires { AreTracksOf tracks.now (journals_of journals.now) }
     ensures { IsTrue result ↔ IsNotChosenBelow (journals_of journals.now) slot command.now }
 {
     each_of_five(&Five {
-        d0: has_no_chosen_below(journals, 0, slot, command),
-        d1: has_no_chosen_below(journals, 1, slot, command),
-        d2: has_no_chosen_below(journals, 2, slot, command),
-        d3: has_no_chosen_below(journals, 3, slot, command),
-        d4: has_no_chosen_below(journals, 4, slot, command),
+        d0: has_no_chosen_below(journals, tracks, 0, slot, command),
+        d1: has_no_chosen_below(journals, tracks, 1, slot, command),
+        d2: has_no_chosen_below(journals, tracks, 2, slot, command),
+        d3: has_no_chosen_below(journals, tracks, 3, slot, command),
+        d4: has_no_chosen_below(journals, tracks, 4, slot, command),
     })
 }

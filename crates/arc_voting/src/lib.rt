@@ -11,9 +11,13 @@ mod majority;
 mod rule;
 mod settled;
 mod slot;
+mod track;
 
 pub use applied::applied_at;
 pub use breaches::audit;
 pub use breach::{AuditEnd, Breach};
 pub use majority::chosen;
 pub use rule::Rule;
+
+#[cfg(test)]
+mod tests;

@@ -23,7 +23,7 @@ returns-in-V4 c =
             (ap (λ v. v.items) c.get.ensures) c.requires.within c.index.ensures in
     let P : ℕ → Type 0 = λ slot. IsTrue c.is_chosen.result ↔ IsChosen (journals_of c.args.journals.now) slot c.in-Closed.command in
     closed_decides (journals_of c.args.journals.now) c.args.rule c.args.node c.args.place c.in-Closed.slot c.in-Closed.command
-        c.is_chosen.result (here ∙ ap Some c.in-Closed.is) c.in-V4.is (subst P c.whole_slot.ensures.number c.is_chosen.ensures)
+        c.is_chosen.result (here ∙ ap Some c.in-Closed.is) c.in-V4.is (subst P c.slot_at.ensures.number c.is_chosen.ensures)
 
 pub returns-in_default-rule : goal.returns-in_default-rule
 returns-in_default-rule c =
@@ -40,3 +40,6 @@ returns-in_default c =
             (ap (λ v. v.items) c.get.ensures) c.requires.within c.index.ensures in
     other_keeps (journals_of c.args.journals.now) c.args.rule c.args.node c.args.place c.index.result.now here c.requires.other
         c.in_default.not-Voted c.in_default.not-Closed
+
+pub is_chosen-requires : goal.is_chosen-requires
+is_chosen-requires c = c.slot_at.ensures.shown (journals_of c.args.journals.now) c.requires.tracked

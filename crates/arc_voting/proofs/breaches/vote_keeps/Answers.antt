@@ -10,3 +10,9 @@ returns-in-V6 c =
     let P : Rule → Type 0 = λ r. IsTrue c.is_not_chosen_below.result ↔
         VoteKeeps (journals_of c.args.journals.now) r c.args.node c.args.place c.args.slot c.args.ballot c.args.command.now in
     subst P (sym c.in-V6.is) c.is_not_chosen_below.ensures
+
+pub node_voted-requires-clause-shown : goal.node_voted-requires-clause-shown
+node_voted-requires-clause-shown c = c.slot_at-at.ensures.shown (journals_of c.args.journals.now) c.requires.tracked
+
+pub lower_are_settled-requires : goal.lower_are_settled-requires
+lower_are_settled-requires c = c.slot_at-at.ensures.shown (journals_of c.args.journals.now) c.requires.tracked
