@@ -1,0 +1,10 @@
+pub mod Three
+pub mod Contained
+pub mod Slots
+pub mod Walks
+pub mod Noted
+pub mod Fives
+pub mod Rulings
+pub mod Lengths
+pub mod Silent
+pub mod Tracking

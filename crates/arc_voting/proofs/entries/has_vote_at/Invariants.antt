@@ -1,0 +1,9 @@
+-- No entry so far is a vote there.
+use Rattle.std.proofs.Common.{◌≡◌, ℕ, ◌<◌, List, take, Contains}
+use Rattle.arc_command.specs.declared.command.Command.{Command}
+use Rattle.arc_voting.specs.Chosen.{HoldsVote}
+use Rattle.arc_voting.specs.Parts.{VotesAt}
+use Rattle.arc_voting.proofs.entries.has_vote_at.Given as goal
+
+abbrev pub invariant-loop-entry : goal.invariant-loop-entry
+invariant-loop-entry l = ¬ VotesAt (take l.entry-index l.entries) l.slot l.ballot

@@ -1,0 +1,14 @@
+pub mod Votes
+pub mod Journals
+pub mod Lists
+pub mod Chosen
+pub mod Formed
+pub mod Settled
+pub mod Ids
+pub mod Rules
+pub mod Parts
+pub mod Sound
+pub mod Walk
+pub mod Tracks
+pub mod Turn
+pub mod Lawful

@@ -1,0 +1,32 @@
+-- What is kept of where the votes of each slot stand.
+use Rattle.std.specs.Prelude.{ℕ, ◌≡◌, ◌<◌, ◌≤◌, Option, Some, List, length}
+use Rattle.std.specs.List.{slice_get}
+use Rattle.arc_bytes.specs.Five.{at}
+use Rattle.arc_bytes.specs.declared.five.Five.{Five}
+use Rattle.arc_command.specs.declared.record.Record.{Record}
+use Rattle.arc_voting.specs.declared.slot.Part.{Part}
+use Rattle.arc_voting.specs.declared.track.Track.{Track}
+use Rattle.arc_voting.specs.Journals.{Journals}
+use Rattle.arc_voting.specs.Parts.{ShowsPart}
+use Rattle.arc_voting.specs.Sound.{IsWellFormedIn}
+
+-- A journal is well-formed, where five journals have so many promises.
+abbrev pub IsWellFormedWhole : ℕ → List Record → Type 0
+IsWellFormedWhole promises journal = (place : ℕ) → IsWellFormedIn promises journal place
+
+-- Each of the five journals is well-formed.
+abbrev pub AreWellFormed : ℕ → Journals → Type 0
+AreWellFormed promises js = (node : ℕ) → node < 5 → IsWellFormedWhole promises (js node)
+
+-- The parts show what the journal says of each slot, and of every slot past them.
+pub record IsTrackOf (track : Track) (journal : List Record) : Type 0 where
+  pub each : (slot : ℕ) (part : Part) → slice_get track.parts.items slot ≡ Some part → ShowsPart journal slot part
+  pub past : (slot : ℕ) → length track.parts.items ≤ slot → ShowsPart journal slot track.beyond
+
+-- The tracks are those of the five journals.
+abbrev pub AreTracksOf : Five Track → Journals → Type 0
+AreTracksOf tracks js = (node : ℕ) → node < 5 → IsTrackOf (at tracks node) (js node)
+
+-- What a track shows of a slot.
+abbrev pub ShowsOf : Track → ℕ → Part → Type 0
+ShowsOf track slot part = (journal : List Record) → IsTrackOf track journal → ShowsPart journal slot part
