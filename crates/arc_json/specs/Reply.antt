@@ -1,6 +1,7 @@
 -- The JSON value and the status of each reply. Members stand in ascending byte order of their names.
-use Rattle.std.specs.Prelude.{ℕ, List, codes, Bool, if◌then◌else◌}
-use Rattle.serde_json.specs.Data.{Data, number, unsigned, string, object, member, no_members}
+use Rattle.std.specs.Prelude.{ℕ, List, codes, map, Bool, if◌then◌else◌}
+use Rattle.serde_json.specs.Data.{Data, number, unsigned, string, array, object, member, no_members}
+use Rattle.serde_json.specs.View.{items_of}
 use Rattle.serde_json.specs.Written.{compact_text}
 use Rattle.arc_ids.specs.Texts.{panel_text, control_text, rule_text}
 use Rattle.arc_command.specs.declared.reply.Body.{Body}
@@ -8,8 +9,11 @@ use Rattle.arc_command.specs.declared.reply.Body.TheVariants.{Empty, Control, Co
 use Rattle.arc_command.specs.declared.reply.Named.{Named}
 use Rattle.arc_command.specs.declared.reply.Named.TheVariants as named
 use Rattle.arc_command.specs.declared.reply.Refusal.{Refusal}
-use Rattle.arc_command.specs.declared.reply.Refusal.TheVariants.{TokenAhead, NotFound, Limit, NameTaken}
+use Rattle.arc_command.specs.declared.reply.Refusal.TheVariants.{TokenAhead, NotFound, Limit, NameTaken, InUse, Forbidden as IsForbidden}
 use Rattle.arc_command.specs.declared.reply.Reply.{Reply}
+use Rattle.arc_command.specs.declared.rule.Cause.{Cause}
+use Rattle.arc_command.specs.declared.rule.Cause.TheVariants.{AssertFalse, GateClosed, Waiting}
+use Rattle.arc_command.specs.declared.rule.Forbidden.{Forbidden}
 use Rattle.arc_command.specs.declared.reply.Reply.TheVariants.{Done, Refused}
 
 -- the text of whatever has an identifier
@@ -36,6 +40,26 @@ body_value (ControlState control name on) =
     member (codes "RoutingControlName") (string name) (
     member (codes "RoutingControlState") (string (switch_text on)) no_members)))
 
+-- why a rule forbids a batch; of a wait also when it ends
+abbrev pub forbidden_with : List ℕ → Cause → Data
+forbidden_with rule AssertFalse =
+    object (
+    member (codes "Cause") (string (codes "AssertFalse")) (
+    member (codes "SafetyRuleArn") (string rule) no_members))
+forbidden_with rule GateClosed =
+    object (
+    member (codes "Cause") (string (codes "GateClosed")) (
+    member (codes "SafetyRuleArn") (string rule) no_members))
+forbidden_with rule (Waiting until) =
+    object (
+    member (codes "Cause") (string (codes "Waiting")) (
+    member (codes "SafetyRuleArn") (string rule) (
+    member (codes "Until") (number (unsigned until)) no_members)))
+
+-- a rule that forbids a batch
+abbrev pub forbidden_value : Forbidden → Data
+forbidden_value forbidden = forbidden_with (rule_text forbidden.rule) forbidden.cause
+
 -- why it was refused
 abbrev pub refusal_value : Refusal → Data
 refusal_value (TokenAhead token place) =
@@ -59,6 +83,16 @@ refusal_value (NameTaken id) =
     member (codes "Reason") (string (codes "NameTaken")) (
     member (codes "Resource") (string (named_text id)) (
     member (codes "__type") (string (codes "ConflictException")) no_members)))
+refusal_value (InUse id) =
+    object (
+    member (codes "Reason") (string (codes "InUse")) (
+    member (codes "Resource") (string (named_text id)) (
+    member (codes "__type") (string (codes "ConflictException")) no_members)))
+refusal_value (IsForbidden rules) =
+    object (
+    member (codes "Reason") (string (codes "Forbidden")) (
+    member (codes "Rules") (array (items_of (map forbidden_value rules))) (
+    member (codes "__type") (string (codes "ConflictException")) no_members)))
 
 -- the status of a refusal, in the numbers of HTTP
 abbrev pub refusal_status : Refusal → ℕ
@@ -66,6 +100,8 @@ refusal_status (TokenAhead token place) = 409
 refusal_status (NotFound id) = 404
 refusal_status (Limit count) = 402
 refusal_status (NameTaken id) = 409
+refusal_status (InUse id) = 409
+refusal_status (IsForbidden rules) = 409
 
 -- the JSON value of a reply
 abbrev pub value_of : Reply → Data

@@ -56,7 +56,7 @@ first_fails true x rest none = cc
 first_fails false x rest none = (refl, none)
 
 -- what isn't found passes nowhere
-unfound : {X : Type 0} (p : X → Bool) (xs : List X) → find p xs ≡ None → All (λ x. p x ≡ false) xs
+pub unfound : {X : Type 0} (p : X → Bool) (xs : List X) → find p xs ≡ None → All (λ x. p x ≡ false) xs
 unfound p [] none k d within = absurd (omega arith)
 unfound p (x ∷ xs) none zero d within = (first_fails (p x) x (find p xs) none).0
 unfound p (x ∷ xs) none (suc k) d within =
