@@ -91,3 +91,14 @@ change_first-map p f g f' same [] = refl
 change_first-map p f g f' same (x ∷ xs) =
     both_changed (p (g x)) g x (f' x) (f (g x)) xs (change_first (λ y. p (g y)) f' xs) (change_first p f (map g xs))
     (same x) (sym (change_first-map p f g f' same xs))
+
+-- ---- what is found
+
+-- what is found through a function is found
+pub found_through : {A B : Type 0} (f : A → B) (o : Option A) (y : B) → option_map f o ≡ Some y → (x : A) × (o ≡ Some x) × (f x ≡ y)
+found_through f None y found = cc
+found_through f (Some x) y found = (x, refl, cc)
+
+pub nothing_through : {A B : Type 0} (f : A → B) (o : Option A) → option_map f o ≡ None → o ≡ None
+nothing_through f None none = refl
+nothing_through f (Some x) none = cc

@@ -22,22 +22,13 @@ use Rattle.arc_rules.specs.declared.rules.Rules.{Rules}
 use Rattle.arc_command.specs.declared.command.TheConstants.{MAX_MS}
 use Rattle.arc_rules.specs.Kept.{IsTimely, noted, renamed_kept}
 use Rattle.arc_rules.specs.Standing.{StandsFor, Tells, kept_of}
-use Rattle.arc_plain.proofs.Lists.{change_first-map, changed_at, filter-map, find-map}
+use Rattle.arc_plain.proofs.Lists.{found_through, nothing_through, change_first-map, changed_at, filter-map, find-map}
 use Rattle.arc_rules.proofs.Noting.{changes_at, last_change-more, last_change-none}
 use Rattle.arc_rules.proofs.Standing.{found_stands, has_stands, length_stands}
 
 -- these rules, and so many identifiers drawn, stand for those of a plain state
 abbrev pub Stand : List Kept → ℕ → PlainRules → Type 0
 Stand rules drawn plain = StandsFor (record { rules = rules; drawn = drawn }) plain
-
--- what is found through a function is found
-found_through : {A B : Type 0} (f : A → B) (o : Option A) (y : B) → option_map f o ≡ Some y → (x : A) × (o ≡ Some x) × (f x ≡ y)
-found_through f None y found = cc
-found_through f (Some x) y found = (x, refl, cc)
-
-nothing_through : {A B : Type 0} (f : A → B) (o : Option A) → option_map f o ≡ None → o ≡ None
-nothing_through f None none = refl
-nothing_through f (Some x) none = cc
 
 -- ---- a new rule
 

@@ -1,7 +1,8 @@
 -- Rules as they are kept.
-use Rattle.std.specs.Prelude.{ℕ, ◌≤◌, List, length, Bool, All, Option, Some, IfSome, if◌then◌else◌}
+use Rattle.std.specs.Prelude.{ℕ, ◌≤◌, List, length, Bool, All, Option, Some, IfSome, if◌then◌else◌, ◌==◌, not}
 use Rattle.std.specs.List.{list_any}
 use Rattle.arc_ids.specs.declared.named_id.ControlId.{ControlId}
+use Rattle.arc_ids.specs.declared.named_id.RuleId.{RuleId}
 use Rattle.arc_command.specs.declared.command.Batch.{Batch}
 use Rattle.arc_command.specs.declared.command.TheConstants.{MAX_MS}
 use Rattle.arc_command.specs.declared.rule.Forbidden.{Forbidden}
@@ -33,6 +34,10 @@ AreTimely rules = All IsTimely rules
 pub record AreKept (rules : List Kept) : Type 0 where
   pub timely : AreTimely rules
   pub within_limit : length rules ≤ most_rules
+
+-- whether a rule isn't there
+unfoldable pub is_unknown : List Kept → RuleId → Bool
+is_unknown rules rule = not (list_any (λ k. k.rule.0 == rule.0) rules)
 
 -- whether a kept rule forbids a batch, and why
 abbrev pub forbids_kept : Batch → (ControlId → Bool) → ℕ → Kept → Option Forbidden

@@ -18,6 +18,7 @@ mod table;
 
 pub use arc_command::{Cause, Forbidden};
 pub use evaluation::value;
+pub use forbid::changed_by;
 pub use rules::Rules;
 
 #[cfg(test)]

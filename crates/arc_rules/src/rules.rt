@@ -1,5 +1,5 @@
 //! The rules that are kept.
-ghost use Rattle.std.specs.Prelude.{◌≡◌, ◌-◌, ◌<◌, ◌≤◌, ◌==◌, ◌^◌, IfOk, OnErr, filter, get_or, not, set, vec_len};
+ghost use Rattle.std.specs.Prelude.{◌≡◌, ◌-◌, ◌<◌, ◌≤◌, ◌==◌, ◌^◌, IfOk, OnErr, filter, find, get_or, not, set, vec_len};
 ghost use Rattle.arc_command.specs.States.{is_on};
 ghost use Rattle.arc_plain.specs.Rules.{PlainRules, add_rule, forbidding, fresh_rules, has_rule, remove_rule, rules_in, update_rule, user_of, with_changes};
 ghost use Rattle.arc_rules.specs.Kept.{renamed_kept};
@@ -142,6 +142,14 @@ impl Rules {
         ensures { (plain : PlainRules) → StandsFor self.now plain → result ≡ has_rule plain rule }
     {
         table::has(self.rules.as_slice(), rule)
+    }
+
+    /// The first of these rules that isn't there.
+    pub fn first_unknown(&self, rules: &[RuleId]) -> Option<RuleId>
+        ensures { (plain : PlainRules) → StandsFor self.now plain →
+            result ≡ find (λ r. not (has_rule plain r)) rules.now }
+    {
+        table::first_unknown(self.rules.as_slice(), rules).copied()
     }
 
     /// The first rule, in order of creation, that names a control.

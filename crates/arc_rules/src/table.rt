@@ -2,7 +2,8 @@
 ghost use Rattle.std.specs.Prelude.{◌≡◌, ◌==◌, ◌&&◌, IfOk, filter, find, map, not, position};
 ghost use Rattle.std.specs.Bool.{beq};
 ghost use Rattle.std.specs.List.{list_any};
-ghost use Rattle.std.specs.Option.{option_map};
+ghost use Rattle.std.specs.Option.{option_copied, option_map};
+ghost use Rattle.arc_rules.specs.Kept.{is_unknown};
 ghost use Rattle.arc_plain.specs.Rules.{holds_name, is_gate, item_of, names_control};
 
 use crate::kept::{Kept, is_gate, names_control};
@@ -15,6 +16,20 @@ pub(crate) fn has(rules: &[Kept], rule: RuleId) -> bool
     ensures { result ≡ list_any (λ r. r.rule.0 == rule.0) rules.now }
 {
     rules.iter().any(|r| r.rule.0 == rule.0)
+}
+
+/// The first of these rules that isn't there.
+pub(crate) fn first_unknown<'a>(kept: &[Kept], rules: &'a [RuleId]) -> Option<&'a RuleId>
+    ensures { option_copied result ≡ find (is_unknown kept.now) rules.now }
+{
+    rules.iter().find(|r| is_unknown(kept, **r))
+}
+
+#[tactic(auto, unfolding(crate::specs::Kept::is_unknown))]
+fn is_unknown(kept: &[Kept], rule: RuleId) -> bool
+    ensures { result ≡ is_unknown kept.now rule }
+{
+    !has(kept, rule)
 }
 
 /// The place of the rule of this kind.

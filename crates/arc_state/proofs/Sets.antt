@@ -12,51 +12,6 @@ use Rattle.arc_plain.proofs.Sets.{drawn_after_sets, length_after_sets}
 use Rattle.arc_state.specs.Controls.{AreKept}
 use Rattle.arc_plain.proofs.Found.{find_nowhere}
 
--- the last of two changes decides
-set_by_twice : (b : Bool) (e : Entry) (o : Option Entry) (c : ControlItem) →
-    set_by (cond b (Some e) o) c ≡ set_by (cond b (Some e) None) (set_by o c)
-set_by_twice true e None c = refl
-set_by_twice true e (Some x) c = refl
-set_by_twice false e o c = refl
-
--- the same where the test looks at the changed control
-set_by_onto : (e : Entry) (o : Option Entry) (c : ControlItem) →
-    set_by (cond (e.control.0 == c.control.0) (Some e) o) c
-    ≡ set_by (cond (e.control.0 == (set_by o c).control.0) (Some e) None) (set_by o c)
-set_by_onto e None c = set_by_twice (e.control.0 == c.control.0) e None c
-set_by_onto e (Some x) c = set_by_twice (e.control.0 == c.control.0) e (Some x) c
-
--- one more entry before the others is one more change after theirs
-pub with_set-cons : (e : Entry) (rest : List Entry) (xs : List ControlItem) →
-    with_set (e ∷ rest) xs ≡ with_set (e ∷ []) (with_set rest xs)
-with_set-cons e rest [] = refl
-with_set-cons e rest (c ∷ xs) =
-    let first = set_by_onto e (find (λ x. x.control.0 == c.control.0) rest) c in
-    let others = with_set-cons e rest xs in
-    cc
-
--- no entry changes nothing
-pub with_set-nil : (xs : List ControlItem) → with_set [] xs ≡ xs
-with_set-nil [] = refl
-with_set-nil (c ∷ xs) = ap (λ l. c ∷ l) (with_set-nil xs)
-
--- before the first of the last entries no entry is set
-pub sets_none : (entries : List Entry) (xs : List ControlItem) → xs ≡ with_set (drop (length entries) entries) xs
-sets_none entries xs =
-    sym (ap (λ rest. with_set rest xs) (drop_all (length entries) entries (omega arith)) ∙ with_set-nil xs)
-
--- the entry before the last entries is the next
-pub sets_more : (entries : List Entry) (xs ys zs : List ControlItem) (i : ℕ) (d : Entry) → 0 < i → i ≤ length entries →
-    ys ≡ with_set (drop i entries) xs → zs ≡ with_set (get_or entries (i - 1) d ∷ []) ys →
-    zs ≡ with_set (drop (i - 1) entries) xs
-sets_more entries xs ys zs i d some within before now =
-    let entry = get_or entries (i - 1) d in
-    let next : i - 1 + 1 ≡ i = omega arith in
-    let rest = rw next at (drop_more entries (i - 1) d (omega arith)) in
-    now
-    ∙ ap (λ l. with_set (entry ∷ []) l) before
-    ∙ sym (ap (λ l. with_set l xs) rest ∙ with_set-cons entry (drop i entries) xs)
-
 -- an entry sets its own control
 set_by_own : (e : Entry) (c : ControlItem) → c.control.0 ≡ e.control.0 →
     set_by (find (λ x. x.control.0 == c.control.0) (e ∷ [])) c ≡ record c { on = e.on }

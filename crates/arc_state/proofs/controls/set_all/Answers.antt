@@ -1,5 +1,5 @@
 use Rattle.std.proofs.Common.{arith}
-use Rattle.arc_state.proofs.Sets.{sets_none, sets_more}
+use Rattle.arc_plain.proofs.Sets.{sets_none, sets_more}
 use Rattle.arc_state.proofs.controls.set_all.Goals as goal
 
 pub loop-i-init : goal.loop-i-init
