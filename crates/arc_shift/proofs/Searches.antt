@@ -1,5 +1,5 @@
 -- Whether something is found is whether some item passes.
-use Rattle.std.proofs.Common.{◌≡◌, Bool, true, false, cond, List, [], ◌∷◌, find, Some, None, is_some, refl, ◌||◌}
+use Rattle.std.proofs.Common.{◌≡◌, Bool, true, false, cond, List, [], ◌∷◌, find, Some, is_some, refl, ◌||◌}
 use Rattle.std.specs.List.{list_any}
 
 pub is_some-find : {X : Type 0} (p : X → Bool) (xs : List X) → is_some (find p xs) ≡ list_any p xs

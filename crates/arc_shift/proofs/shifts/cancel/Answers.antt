@@ -1,4 +1,4 @@
-use Rattle.std.proofs.Common.{◌≡◌, Ok, set, get_or, sym, ap, ◌∙◌}
+use Rattle.std.proofs.Common.{Ok, set, sym, ap, ◌∙◌}
 use Rattle.arc_command.specs.declared.shift.Shift.{Shift}
 use Rattle.arc_plain.specs.Shifts.{canceled, canceled_at}
 use Rattle.arc_plain.proofs.Shifts.{changed_there}

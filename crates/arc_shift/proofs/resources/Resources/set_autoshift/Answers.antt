@@ -1,4 +1,4 @@
-use Rattle.std.proofs.Common.{◌≡◌, Ok, set, get_or, refl, sym, ap, ◌∙◌}
+use Rattle.std.proofs.Common.{Ok, set, refl, sym, ap, ◌∙◌}
 use Rattle.arc_command.specs.declared.resource.Resource.{Resource}
 use Rattle.arc_plain.specs.Resources.{PlainResources, autoshift_set, switched}
 use Rattle.arc_plain.proofs.Resources.{none_to_switch, switched_there}

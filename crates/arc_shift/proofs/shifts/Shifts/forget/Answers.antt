@@ -1,4 +1,4 @@
-use Rattle.std.proofs.Common.{◌≡◌, ◌==◌, not, rules, List, filter, sym, ap, subst, ◌∙◌}
+use Rattle.std.proofs.Common.{◌==◌, not, rules, List, sym, ap, subst, ◌∙◌}
 use Rattle.std.proofs.lemmas.Fn.{filter_same}
 use Rattle.arc_command.specs.declared.shift.Shift.{Shift}
 use Rattle.arc_plain.specs.Shifts.{AreKeptShifts, without_shift}
