@@ -361,7 +361,7 @@ module _ {T : Type 0} (history : T → History) (name : T → List ℕ) where
             (λ e. (begins_back both.seen d.log within (subst (λ l. IsPrefix l both.seen) e.0 first), subst IsLive (sym idle) tt)) (λ _ _ e. e) r.order.whole.1) in
       let vs : List View = set r.views id both in
       let last : IsInOrder history name d (set vs other spent) = idle_set d vs other w spent one there₁ idle' tt
-          (dite (ℕ_discrete one.whole.0 other)
+          (dite {P = one.whole.0 ≡ other} (ℕ_discrete one.whole.0 other)
             (λ (e : one.whole.0 ≡ other). let all : w.seen ≡ d.log = seen_there vs other w d.log there₁ (subst (λ k. Has vs k (HasSeenAll d.log)) e one.whole.1) in
               (id, (both, set_else vs other id spent (λ k. apart (sym k)) ∙ set_there r.views id both v here,
                 (begins_back both.seen d.log within (subst (λ l. IsPrefix l both.seen) all second), subst IsLive (sym idle) tt))))
