@@ -5,7 +5,10 @@
 //! The law that it keeps: a failure is the outside's own. `Failed` is answered only where the count of faults of
 //! the object that was handed in rose during the call, and code that is generic over the traits can't raise it.
 //!
-//! What the caller owes: the buffer of a read isn't empty.
+//! The bytes: a number of 16, 32 or 64 bits stands in 2, 4 or 8 bytes, the highest first. The `put_` calls add it at the
+//! end, the `take_` calls read it at a place and tell the place after it.
+//!
+//! What the caller owes: the buffer of a read isn't empty, and a node of `Five` is below 5.
 #![tactic(auto)]
 
 mod all;

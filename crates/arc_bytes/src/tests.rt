@@ -152,3 +152,43 @@ fn a_broken_stream_counts_its_faults(rt: HostRuntime) -> Result<(), Fail> {
     }
     Ok(())
 }
+
+#[test]
+fn a_number_stands_with_its_highest_byte_first(rt: HostRuntime) -> Result<(), Fail> {
+    let mut bytes = Vec::new(rt.alloc());
+    put_u16(&mut bytes, 0x0102)?;
+    put_u32(&mut bytes, 0x0304_0506)?;
+    put_u64(&mut bytes, 0x0708_090a_0b0c_0d0e)?;
+    assert_eq!(rt;
+        bytes.as_slice(),
+        [1u8, 2, 3, 4, 5, 6, 7, 8, 9, 10, 11, 12, 13, 14].as_slice()
+    );
+    assert_eq!(rt; take_u16(&bytes, 0), Ok((0x0102, 2)));
+    assert_eq!(rt; take_u32(&bytes, 2), Ok((0x0304_0506, 6)));
+    assert_eq!(rt; take_u64(&bytes, 6), Ok((0x0708_090a_0b0c_0d0e, 14)));
+    Ok(())
+}
+
+#[test]
+fn a_cut_number_says_how_many_bytes_remain(rt: HostRuntime) {
+    let bytes = [1u8, 2, 3];
+    for (at, have) in [(2usize, 1usize), (3, 0), (9, 0)] {
+        assert_eq!(rt; take_u16(&bytes, at), Err(Short { have, need: 2 }));
+        assert_eq!(rt; take_u32(&bytes, at), Err(Short { have, need: 4 }));
+        assert_eq!(rt; take_u64(&bytes, at), Err(Short { have, need: 8 }));
+    }
+}
+
+#[test]
+fn one_of_five_is_changed(rt: HostRuntime) {
+    let mut five = Five {
+        d0: 0u8,
+        d1: 1,
+        d2: 2,
+        d3: 3,
+        d4: 4,
+    };
+    *five.get_mut(3) = 9;
+    let seen = [five.d0, five.d1, five.d2, five.d3, five.d4];
+    assert_eq!(rt; seen, [0u8, 1, 2, 9, 4]);
+}

@@ -1,12 +1,17 @@
 //! What can be said to the cluster, and what it answers: commands, operations, replies and refusals, as plain data.
 //!
-//! It stands on `arc_ids` for identifiers, on `arc_window` for weekly windows and on `arc_bytes` for `Memory`. Everything
-//! that knows a command stands on it.
+//! It stands on `arc_ids` for identifiers, on `arc_window` for weekly windows, and on `arc_bytes` for `Memory` and for
+//! numbers in bytes. Everything that knows a command stands on it.
 //!
 //! The law that it keeps: contracts see a text as its bytes and a list as its items, so that plain data is compared as
 //! a whole. A copy equals its original, and `Equals` tells exactly whether two values are one.
 //!
-//! What the caller owes: an operation in a command is valid, that is within its limits.
+//! The bytes: a command is the version 1, its identifier (1, 4 and 4 bytes), its time and its token (8 each), the number
+//! of its operation (1) and the operation's fields; an entry is the number of its kind (1) and its parts. Numbers stand
+//! with the highest byte first, each command and each entry has one spelling, and nothing else is read.
+//!
+//! What the caller owes: an operation in a command is valid, that is within its limits, and so are the command's
+//! identifier and time.
 #![tactic(auto)]
 
 mod bytes;
