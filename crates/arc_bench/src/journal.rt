@@ -9,10 +9,9 @@ use arc_command::{Batch, Command, CommandId, ControlId, Entry, List, Op, Record,
 use arc_disk::{Disk, MemoryDisk};
 use arc_journal::Journal;
 use std::alloc::Global;
-use std::fs;
-use std::io;
 use std::rt::{Clock, Files};
 use std::time::Instant;
+use std::{fs, io};
 
 /// How many entries are appended.
 const ENTRIES: u32 = 10_000;
@@ -26,7 +25,12 @@ fn entry_of(alloc: Global, slot: u32) -> Result<Record, Memory>
     ensures valid { IfOk result IsValidRecord }
     ensures below { IfOk result (λ r. is_below 16384 r ≡ true) }
 {
-    let entries = vec![in alloc; Entry { control: ControlId(1), on: true }]?;
+    let entries = vec![in alloc;
+        Entry {
+            control: ControlId(1),
+            on: true
+        },
+    ]?;
     let overrides = vec![in alloc; RuleId(7); 16]?;
     let batch = Batch {
         entries: List::of(entries),

@@ -6,8 +6,7 @@ mod http;
 mod journal;
 mod turn;
 
-use std::env;
-use std::io;
+use std::{env, io};
 
 fn main(rt: HostRuntime) -> io::Result<()> {
     let mut words = env::args(&rt)?;
