@@ -30,7 +30,7 @@ returns-then-not-is_empty-clause-commits c plain stands =
     let overridden = rw (c.in_default-first_unknown.is, c.as_slice.ensures) at (c.first_unknown-2.ensures plain stands) in
     let same : is_on c.states.result.now ≡ on_of c.args.controls.now.panels = λ i k. c.states.ensures.are_on k i in
     let all = c.of-rules.ensures ∙ c.in_ok-rules.ensures plain stands
-        ∙ ap (λ (on : ControlId → Bool). forbidding plain c.args.batch.now on c.args.now) same in
+    ∙ ap (λ (on : ControlId → Bool). forbidding plain c.args.batch.now on c.args.now) same in
     let some : 0 < length c.in_ok-rules.rules.items = grind (arith, nat_tests, c.is_empty.ensures, c.if-not-is_empty.true) in
     forbidden c.args.controls.now.panels plain c.args.batch.now c.args.now c.args.controls.now c.of-rules.result known overridden all
     (rw c.of-rules.ensures some)
@@ -44,7 +44,7 @@ returns-clause-commits c plain stands =
     let same-2 : is_on c.states-2.result.now ≡ on_of c.args.controls.now.panels = λ i k. c.states-2.ensures.are_on k i in
     let none : length c.in_ok-rules.rules.items ≡ 0 = grind (arith, nat_tests, c.is_empty.ensures, c.if-not-is_empty.false) in
     let free = sym (nothing_left c.in_ok-rules.rules.items none) ∙ c.in_ok-rules.ensures plain stands
-        ∙ ap (λ (on : ControlId → Bool). forbidding plain c.args.batch.now on c.args.now) same in
+    ∙ ap (λ (on : ControlId → Bool). forbidding plain c.args.batch.now on c.args.now) same in
     let changed = rw c.as_slice-entries.ensures at c.in_ok-changed.ensures in
     let set = rw c.as_slice-entries.ensures at c.set_all.ensures in
     let noted = rw c.as_slice-2.ensures.value at (c.note.ensures plain stands) in
