@@ -14,6 +14,3 @@ mod panels;
 mod tables;
 
 pub use panels::Panels;
-
-#[cfg(test)]
-mod tests;

@@ -20,6 +20,3 @@ pub use arc_command::{Cause, Forbidden};
 pub use evaluation::value;
 pub use forbid::changed_by;
 pub use rules::Rules;
-
-#[cfg(test)]
-mod tests;
