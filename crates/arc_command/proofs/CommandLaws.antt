@@ -1,5 +1,5 @@
 -- The fields of commands, and what follows for whole spellings.
-use Rattle.std.proofs.Common.{◌≡◌, ℕ, ◌+◌, ◌^◌, ◌<◌, ◌≤◌, ◌==◌, Bool, true, false, nat_le, nat_lt, List, [], ◌∷◌, ◌++◌, length, drop, Result, Ok, Err, refl, sym, ap, subst, ◌∙◌, append_assoc, zero-add, arith, lit<}
+use Rattle.std.proofs.Common.{◌≡◌, ℕ, ◌^◌, ◌<◌, ◌==◌, true, nat_le, nat_lt, List, [], ◌∷◌, ◌++◌, length, drop, Result, Ok, Err, refl, sym, ap, ◌∙◌, append_assoc, zero-add, arith, lit<}
 use Rattle.std.specs.Prelude.{IfOk}
 use Rattle.std.specs.Int.{w32, w64}
 use Rattle.std.proofs.lemmas.Bool.{leb-true, le-leb, ltb-true, lt-ltb, eqb-true}
@@ -10,12 +10,12 @@ use Rattle.arc_command.specs.declared.bytes.CommandEnd.{CommandEnd}
 use Rattle.arc_command.specs.declared.command.Command.{Command}
 use Rattle.arc_command.specs.declared.command.Op.{Op}
 use Rattle.arc_command.specs.Laws.{IsSpellable, BeginsWith, ReadsCommands, HasOneSpelling}
-use Rattle.arc_command.specs.Reader.{Reader, pair, mapped, within, byte_at, uint_at}
+use Rattle.arc_command.specs.Reader.{pair, within, byte_at, uint_at}
 use Rattle.arc_command.specs.Reading.{Gives, op_at, command_id_at, version_at, time_at, command_at}
 use Rattle.arc_command.specs.Spelling.{op_bytes, id_bytes, command_bytes}
 use Rattle.arc_command.specs.Typed.{IsTypedId, IsTyped}
 use Rattle.arc_command.specs.Valid.{IsInRange, IsValidCommand}
-use Rattle.arc_command.proofs.FieldLaws.{IsBytes, ok_is, Stands, Taken, Again, IsField, pair_field, mapped_field, within_field}
+use Rattle.arc_command.proofs.FieldLaws.{IsBytes, ok_is, IsField, pair_field, mapped_field, within_field}
 use Rattle.arc_command.proofs.NumberLaws.{uint_field, wide32}
 use Rattle.arc_command.proofs.ListLaws.{byte_field}
 use Rattle.arc_command.proofs.OpLaws.{IsSpellableOp, op_field, uint64}

@@ -1,18 +1,18 @@
 -- Bytes, texts and lists as fields.
-use Rattle.std.proofs.Common.{◌≡◌, ℕ, zero, suc, ◌+◌, ◌-◌, ◌^◌, ◌<◌, ◌≤◌, ◌&&◌, Bool, true, false, cond, ltb, nat_le, List, [], ◌∷◌, ◌++◌, length, get_or, take, drop, Option, Some, None, Result, Ok, Err, refl, sym, ap, subst, ◌∙◌, append_assoc, add-one, add-zero, arith}
+use Rattle.std.proofs.Common.{◌≡◌, ℕ, zero, suc, ◌+◌, ◌-◌, ◌^◌, ◌<◌, ◌≤◌, ◌&&◌, Bool, true, false, nat_le, List, [], ◌∷◌, ◌++◌, length, get_or, take, drop, Option, Some, None, Result, Ok, refl, sym, ap, subst, ◌∙◌, append_assoc, add-one, add-zero, arith}
 use Rattle.std.specs.Int.{w16}
 use Rattle.std.specs.List.{flat_map, slice_get, AllByRecursion}
 use Rattle.std.specs.Str.{IsUtf8, is_utf8}
 use Rattle.std.proofs.Math.Seq.{drop-cons}
 use Rattle.std.proofs.lemmas.Bool.{leb-true, le-leb}
-use Rattle.std.proofs.lemmas.List.{take_at, drop_at, drop-drop, take-append-drop, length-append, length-drop, length-take}
+use Rattle.std.proofs.lemmas.List.{take_at, drop-drop, take-append-drop, length-append, length-drop, length-take}
 use Rattle.std.proofs.lemmas.List.Concat.{flat_map-cons}
 use Rattle.std.proofs.lemmas.Option.{get_or_from_slice_get, slice_get_within}
 use Rattle.std.proofs.lemmas.Str.{IsUtf8-from_is_utf8, is_utf8-from_IsUtf8}
 use Rattle.arc_bytes.specs.Numbers.{number_bytes}
 use Rattle.arc_command.specs.Reader.{Reader, ◌>>=◌, byte_at, given, uint_at, text_at, text_of, items_at, list_at, within}
 use Rattle.arc_command.specs.Spelling.{text_bytes, list_bytes}
-use Rattle.arc_command.proofs.FieldLaws.{IsBytes, bind_ok, passed, ok_is, Stands, Stands-then, Taken, Again, IsField, behind_text, within_field}
+use Rattle.arc_command.proofs.FieldLaws.{bind_ok, passed, ok_is, Stands, Stands-then, Taken, Again, IsField, behind_text, within_field}
 use Rattle.arc_command.proofs.NumberLaws.{uint_field, wide16}
 
 abbrev done : {A : Type 0} → A → Result A ℕ

@@ -1,16 +1,13 @@
 -- The fields of several kinds.
-use Rattle.std.proofs.Common.{◌≡◌, ℕ, zero, suc, ◌+◌, ◌-◌, ◌^◌, ◌<◌, ◌≤◌, ◌&&◌, Bool, true, false, cond, ltb, nat_le, List, [], ◌∷◌, ◌++◌, length, get_or, take, drop, Option, Some, None, Result, Ok, Err, refl, sym, ap, subst, ◌∙◌, append_assoc, arith}
+use Rattle.std.proofs.Common.{◌≡◌, ℕ, ◌+◌, ◌-◌, ◌^◌, ◌<◌, ◌≤◌, Bool, true, false, cond, ltb, List, ◌++◌, length, take, drop, Result, Ok, Err, refl, sym, ap, subst, ◌∙◌, arith}
 use Rattle.std.specs.Int.{Width, w16, w32, w64, byte_len, from_be_bytes, to_be_bytes}
-use Rattle.std.specs.List.{flat_map, slice_get, AllByRecursion}
-use Rattle.std.specs.Str.{IsUtf8, is_utf8}
 use Rattle.std.proofs.lemmas.Bool.{ltb-false, le-ltb}
-use Rattle.std.proofs.lemmas.List.{take_at, drop_at, drop-drop, take-append-drop, length-append, length-drop, length-take}
-use Rattle.std.proofs.lemmas.List.Concat.{flat_map-cons}
+use Rattle.std.proofs.lemmas.List.{take_at, drop-drop, take-append-drop, length-append, length-drop, length-take}
 use Rattle.std.proofs.lemmas.Nat.{be_bytes_2, be_bytes_4, be_bytes_8, from_be_bytes-to_be_bytes_2, from_be_bytes-to_be_bytes_4, from_be_bytes-to_be_bytes_8}
 use Rattle.arc_bytes.specs.declared.numbers.Short.{Short}
 use Rattle.arc_bytes.specs.Numbers.{number_bytes, number_at}
-use Rattle.arc_command.specs.Reader.{Reader, ◌>>=◌, byte_at, given, or_place, uint_at, items_at, within}
-use Rattle.arc_command.proofs.FieldLaws.{IsBytes, IsBytes-take, IsBytes-drop, bind_ok, ok_is, Stands, Stands-then, Taken, Again, IsField, behind_text, within_field}
+use Rattle.arc_command.specs.Reader.{or_place, uint_at}
+use Rattle.arc_command.proofs.FieldLaws.{IsBytes, IsBytes-take, IsBytes-drop, Stands, IsField}
 
 abbrev done : {A : Type 0} → A → Result A ℕ
 done x = Ok x

@@ -1,8 +1,7 @@
 -- The fields of operations.
-use Rattle.std.proofs.Common.{◌≡◌, ℕ, zero, suc, ◌+◌, ◌^◌, ◌<◌, ◌≤◌, ◌==◌, Bool, true, false, cond, nat_le, List, [], ◌∷◌, ◌++◌, length, drop, Result, Ok, Err, refl, sym, ap, subst, ◌∙◌, append_assoc, add-one, arith, lit<, inl, inr, ◌⊎◌}
-use Rattle.std.specs.Int.{w16, w32, w64}
-use Rattle.std.specs.List.{flat_map, AllByRecursion}
-use Rattle.std.specs.Str.{IsUtf8}
+use Rattle.std.proofs.Common.{◌≡◌, ℕ, zero, suc, ◌+◌, ◌^◌, ◌<◌, ◌==◌, Bool, true, false, cond, nat_le, List, [], ◌∷◌, ◌++◌, length, drop, Result, Ok, refl, sym, ap, subst, ◌∙◌, arith, lit<, inl, inr, ◌⊎◌}
+use Rattle.std.specs.Int.{w64}
+use Rattle.std.specs.List.{flat_map}
 use Rattle.std.proofs.lemmas.Bool.{leb-true, eqb-true}
 use Rattle.std.proofs.lemmas.List.{append-nil}
 use Rattle.std.proofs.lemmas.List.Concat.{flat_map-cons}
@@ -10,16 +9,15 @@ use Rattle.arc_bytes.specs.Numbers.{number_bytes}
 use Rattle.arc_ids.specs.declared.named_id.ControlId.{ControlId}
 use Rattle.arc_ids.specs.declared.named_id.PanelId.{PanelId}
 use Rattle.arc_ids.specs.declared.named_id.RuleId.{RuleId}
-use Rattle.arc_command.specs.declared.command.Batch.{Batch}
 use Rattle.arc_command.specs.declared.command.Entry.{Entry}
 use Rattle.arc_command.specs.declared.command.Op.{Op}
 use Rattle.arc_command.specs.declared.command.Op.TheVariants.{CreateRoutingControl, GetRoutingControlState, UpdateRoutingControlState}
-use Rattle.arc_command.specs.Reader.{Reader, ◌>>=◌, pair, mapped, within, byte_at, uint_at, text_at, list_at, tagged, nothing}
+use Rattle.arc_command.specs.Reader.{Reader, pair, within, byte_at, uint_at, list_at, tagged, nothing}
 use Rattle.arc_command.specs.Reading.{switch_at, panel_at, control_at, rule_at, name_at, entry_at, create_routing_control_at, get_routing_control_state_at, single_update, update_routing_control_state_at, op_at}
 use Rattle.arc_command.specs.Spelling.{text_bytes, list_bytes, switch_bytes, panel_bytes, control_bytes, rule_bytes, entry_bytes, tag_of, fields_of, op_bytes}
 use Rattle.arc_command.specs.Typed.{IsTypedEntry, IsTypedRule, IsTypedOp}
 use Rattle.arc_command.specs.Valid.{IsValid}
-use Rattle.arc_command.proofs.FieldLaws.{IsBytes, bind_ok, ok_is, Stands, Stands-then, Taken, Again, IsField, behind_text, pair_field, mapped_taken, mapped_again, mapped_field, within_field}
+use Rattle.arc_command.proofs.FieldLaws.{bind_ok, Stands, Stands-then, Taken, Again, IsField, behind_text, pair_field, mapped_taken, mapped_again, mapped_field, within_field}
 use Rattle.arc_command.proofs.NumberLaws.{uint_field, wide64}
 use Rattle.arc_command.proofs.ListLaws.{byte_field, text_field, list_field, IsTextOf, IsListOf}
 

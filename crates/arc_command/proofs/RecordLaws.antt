@@ -1,5 +1,5 @@
 -- The fields of entries of journals, and what follows for whole bodies.
-use Rattle.std.proofs.Common.{◌≡◌, ℕ, ◌+◌, ◌^◌, ◌<◌, ◌≤◌, ◌==◌, Bool, true, false, cond, List, [], ◌∷◌, ◌++◌, length, drop, Result, Ok, Err, refl, sym, ap, subst, ◌∙◌, append_assoc, zero-add, eq-eqb, arith, lit<}
+use Rattle.std.proofs.Common.{◌≡◌, ℕ, ◌+◌, ◌^◌, ◌<◌, ◌==◌, Bool, true, false, cond, List, [], ◌∷◌, ◌++◌, length, drop, Result, Ok, Err, refl, sym, ap, subst, ◌∙◌, append_assoc, zero-add, eq-eqb, arith, lit<}
 use Rattle.std.specs.Prelude.{IfOk}
 use Rattle.std.specs.Int.{w32, w64}
 use Rattle.std.proofs.lemmas.Bool.{eqb-true}
@@ -10,10 +10,10 @@ use Rattle.arc_command.specs.declared.command.Command.{Command}
 use Rattle.arc_command.specs.declared.record.Record.{Record}
 use Rattle.arc_command.specs.declared.record.Record.TheVariants.{Opened, Promised, Voted, Closed}
 use Rattle.arc_command.specs.Laws.{IsSpellable, IsSpellableRecord, ReadsEntries, EntriesHaveOneSpelling}
-use Rattle.arc_command.specs.Reader.{Reader, ◌>>=◌, pair, mapped, uint_at, tagged, nothing, whole}
+use Rattle.arc_command.specs.Reader.{pair, uint_at, tagged, nothing}
 use Rattle.arc_command.specs.Reading.{Gives, command_at, opened_at, promised_at, voted_at, closed_at, record_at, body_of}
 use Rattle.arc_command.specs.Spelling.{command_bytes, kind_of, parts_of, record_bytes}
-use Rattle.arc_command.proofs.FieldLaws.{IsBytes, bind_ok, passed, ok_is, Stands, Taken, Again, IsField, pair_field, mapped_taken, mapped_again}
+use Rattle.arc_command.proofs.FieldLaws.{IsBytes, bind_ok, ok_is, Taken, Again, IsField, pair_field, mapped_taken, mapped_again}
 use Rattle.arc_command.proofs.OpLaws.{tagged_taken, tagged_here, tagged_past, nothing_taken, uint64}
 use Rattle.arc_command.proofs.CommandLaws.{uint32, command_field}
 

@@ -1,9 +1,8 @@
 -- Readers: what stands at a place of some bytes.
-use Rattle.std.specs.Prelude.{◌≡◌, ℕ, zero, suc, ◌+◌, ◌-◌, ◌&&◌, ◌==◌, Bool, nat_le, if◌then◌else◌, List, [], ◌∷◌, length, take, drop, Option, Some, None, Result, Ok, Err}
+use Rattle.std.specs.Prelude.{ℕ, zero, suc, ◌+◌, ◌-◌, ◌&&◌, ◌==◌, Bool, nat_le, if◌then◌else◌, List, [], ◌∷◌, length, take, drop, Option, Some, None, Result, Ok, Err}
 use Rattle.std.specs.List.{slice_get}
 use Rattle.std.specs.Int.{Width, w16}
 use Rattle.std.specs.Str.{is_utf8}
-use Rattle.arc_bytes.specs.declared.numbers.Short.{Short}
 use Rattle.arc_bytes.specs.Numbers.{number_at}
 
 -- Reading the bytes from a place on answers a value and the place after it, or the place of the field that can't be read.

@@ -1,5 +1,5 @@
 -- How commands and entries of journals are read, field by field.
-use Rattle.std.specs.Prelude.{◌≡◌, ℕ, ◌==◌, Bool, true, false, nat_le, nat_lt, List, [], ◌∷◌, Result, Ok, Err, ⊤}
+use Rattle.std.specs.Prelude.{◌≡◌, ℕ, ◌==◌, Bool, nat_le, nat_lt, List, [], ◌∷◌, Result, Ok, Err, ⊤}
 use Rattle.std.specs.Int.{w32, w64}
 use Rattle.arc_ids.specs.declared.command_id.CommandId.{CommandId}
 use Rattle.arc_ids.specs.declared.named_id.ControlId.{ControlId}
@@ -7,7 +7,6 @@ use Rattle.arc_ids.specs.declared.named_id.PanelId.{PanelId}
 use Rattle.arc_ids.specs.declared.named_id.RuleId.{RuleId}
 use Rattle.arc_command.specs.declared.bytes.CommandEnd.{CommandEnd}
 use Rattle.arc_command.specs.declared.bytes.CommandEnd.TheVariants as end
-use Rattle.arc_command.specs.declared.command.Batch.{Batch}
 use Rattle.arc_command.specs.declared.command.Command.{Command}
 use Rattle.arc_command.specs.declared.command.Entry.{Entry}
 use Rattle.arc_command.specs.declared.command.Op.{Op}

@@ -1,5 +1,5 @@
 -- What is known of every value of the types: numbers are within their types, and texts are UTF-8.
-use Rattle.std.specs.Prelude.{ℕ, ◌<◌, ◌≤◌, ◌^◌, List, length}
+use Rattle.std.specs.Prelude.{◌<◌, ◌^◌}
 use Rattle.std.specs.List.{AllByRecursion}
 use Rattle.std.specs.Str.{IsUtf8}
 use Rattle.arc_ids.specs.declared.command_id.CommandId.{CommandId}
