@@ -2,8 +2,8 @@
 //!
 //! It stands on `hex` for the digits and on `arc_bytes` for `Memory`. Every crate that speaks of commands stands on it.
 //!
-//! The law that it keeps: an identifier has one text, a fixed front and sixteen lower-case hexadecimal digits. Its text is
-//! read again as that identifier, and so is the same text with digits of the other case; no other text is.
+//! The law that it keeps: an identifier is written as a fixed front and sixteen lower-case hexadecimal digits. A text is
+//! read exactly where it is the front and sixteen digits, each of either case, as the number that these digits are.
 #![tactic(auto)]
 
 mod command_id;
