@@ -3,9 +3,9 @@
 //! It stands on `hex` for the digits, on `uuid` for the texts of shifts and on `arc_bytes` for `Memory`. Every crate that
 //! speaks of commands stands on it.
 //!
-//! The law that it keeps: an identifier has one text, a fixed front and sixteen lower-case hexadecimal digits. Its text is
-//! read again as that identifier, and so is the same text with digits of the other case; no other text is. The text of a
-//! shift is a UUID, and is read in each form that a UUID has.
+//! The law that it keeps: an identifier is written as a fixed front and sixteen lower-case hexadecimal digits. A text is
+//! read exactly where it is the front and sixteen digits, each of either case, as the number that these digits are. The
+//! text of a shift is a UUID, read in each form that a UUID has, and what is written is read again.
 #![tactic(auto)]
 
 mod command_id;
