@@ -4,5 +4,6 @@ pub mod Sets
 pub mod Kept
 pub mod Found
 pub mod Keyed
+pub mod Choices
 pub mod Shifts
 pub mod Resources
