@@ -5,5 +5,6 @@ pub mod Kept
 pub mod Found
 pub mod Lists
 pub mod Keyed
+pub mod Choices
 pub mod Shifts
 pub mod Resources

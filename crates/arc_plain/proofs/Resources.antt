@@ -1,6 +1,6 @@
 -- What holds of the resources after each call.
 use Rattle.std.proofs.Common.{◌≡◌, ℕ, ◌+◌, ◌<◌, ◌≤◌, ◌==◌, Bool, true, false, cond, List, [], ◌∷◌, ◌++◌, length, get_or, map, filter, set, find, position, Some, None, is_some, Ok, Err, All, AllPairs, refl, sym, ap, ◌∙◌, arith, eqb, ltb, not, bytes_eq}
-use Rattle.std.proofs.lemmas.Bool.Decides.{nat_tests}
+use Rattle.std.proofs.lemmas.Bool.{lt-ltb}
 use Rattle.std.proofs.lemmas.List.{get_or-map, get_or_default, length-map, length-append}
 use Rattle.std.proofs.lemmas.List.Elements.{All-push}
 use Rattle.std.proofs.lemmas.List.Quantifiers.{all_pairs_push, position-Some}
@@ -9,6 +9,7 @@ use Rattle.arc_command.specs.declared.resource.Resource.{Resource}
 use Rattle.arc_command.specs.declared.reply.Named.TheVariants as named
 use Rattle.arc_command.specs.declared.reply.Refusal.TheVariants.{NotFound}
 use Rattle.arc_plain.specs.Resources.{AreKeptResources, PlainResources, autoshift_ended, autoshift_set, is_in_autoshift, most_resources, name_holder, registered, resource_of, switched, with_autoshift, with_resource}
+use Rattle.arc_plain.proofs.Choices.{if_yes}
 use Rattle.arc_plain.proofs.Found.{find_there, find_nowhere}
 use Rattle.arc_plain.proofs.Keyed.{changed-set}
 
@@ -58,10 +59,6 @@ kept_after_autoshift r id enabled kept = record {
         ap (λ (x : Resource). x.id.0) (get_or-map (set_one id enabled) r.items k d d within)
         ∙ same_id ((get_or r.items k d).id.0 == id.0) enabled (get_or r.items k d)
 
--- the chosen of two
-if_yes : {A : Type 0} (b : Bool) (x y : A) → b ≡ true → cond b x y ≡ x
-if_yes b x y holds = rw holds refl
-
 -- a resource is switched at its place
 pub switched_there : (r : PlainResources) (id : ResourceId) (enabled : Bool) (i : ℕ) (d : Resource) → AreKeptResources r →
     position (λ x. x.id.0 == id.0) r.items ≡ Some i →
@@ -85,15 +82,12 @@ none_to_switch r id enabled nowhere =
 
 -- ---- what is done where nothing refuses it
 
-below_test : (a b : ℕ) → a < b → ltb a b ≡ true
-below_test a b below = grind (arith, nat_tests)
-
 -- a resource of a new name is registered
 pub registers : (r : PlainResources) (name : List ℕ) (zones : List (List ℕ)) → length r.items < most_resources →
     name_holder r name ≡ None → registered r name zones ≡ Ok (with_resource r name zones)
 unfolding registered
 registers r name zones room free =
-    let test = below_test (length r.items) 64 room in
+    let test = lt-ltb (length r.items) 64 room in
     rw (test, free) refl
 
 -- a zone in autoshift is taken out

@@ -12,6 +12,7 @@ use Rattle.arc_command.specs.declared.shift.Shift.{Shift}
 use Rattle.arc_command.specs.declared.shift.Status.TheVariants.{Active, Expired, Canceled}
 use Rattle.arc_command.specs.declared.reply.Refusal.TheVariants.{NotActive}
 use Rattle.arc_plain.specs.Shifts.{AreAlone, AreApart, AreInOrder, AreKeptShifts, HaveStarted, active_of, changed, is_active, renewed, shift_of, status_at, was_canceled, with_changed}
+use Rattle.arc_plain.proofs.Choices.{if_yes}
 use Rattle.arc_plain.proofs.Found.{find_there}
 use Rattle.arc_plain.proofs.Keyed.{changed-set}
 use Rattle.arc_plain.proofs.Kept.{unfound}
@@ -135,10 +136,6 @@ alone xs kept now begun i j d before within own active =
     absurd (cc)
 
 -- ---- what a change of a shift that is there gives
-
--- the chosen of two
-if_yes : {A : Type 0} (b : Bool) (x y : A) → b ≡ true → cond b x y ≡ x
-if_yes b x y holds = rw holds refl
 
 -- an active shift is changed at its place
 pub changed_there : (change : Shift → Shift) (xs : List Shift) (id : ShiftId) (now i : ℕ) (d : Shift) → AreInOrder xs →
