@@ -6,12 +6,11 @@ ghost use Rattle.arc_bench.specs.Ticks.{ticks};
 
 use arc_turn::{Historied, Memory, Pass, Turn};
 use std::alloc::{AllocError, Global};
-use std::io;
 use std::rt::Clock;
 use std::sync::{Mutex, Wait};
-use std::thread;
 use std::thread::Threads;
 use std::time::Instant;
+use std::{io, thread};
 
 /// How often the value is changed, by all threads together.
 const ROUNDS: u64 = 1_000_000;
@@ -88,9 +87,13 @@ fn turns_at_once<R: Threads + Wait + Sync>(
     requires { All (λ p. IsFree turn.now p) passes.items }
 {
     let rounds = ROUNDS / (passes.len() as u64).max(1);
-    thread::map_vec(rt, passes, &|pass: Pass|
-        requires { IsFree turn.now pass }
-    { take_turns(rt, turn, pass, rounds) })?;
+    thread::map_vec(
+        rt,
+        passes,
+        &|pass: Pass|
+            requires { IsFree turn.now pass }
+        { take_turns(rt, turn, pass, rounds) },
+    )?;
     Ok(())
 }
 
@@ -107,7 +110,11 @@ fn locks_at_once<R: Threads + Wait + Sync>(
 }
 
 /// How many microseconds the turns take.
-fn time_turns<R: Threads + Wait + Sync + Clock>(rt: &R, alloc: Global, threads: usize) -> io::Result<u128> {
+fn time_turns<R: Threads + Wait + Sync + Clock>(
+    rt: &R,
+    alloc: Global,
+    threads: usize,
+) -> io::Result<u128> {
     let Ok((turn, passes)) = turn_and_passes(alloc, threads) else {
         return Err(AllocError.into());
     };
@@ -117,7 +124,11 @@ fn time_turns<R: Threads + Wait + Sync + Clock>(rt: &R, alloc: Global, threads: 
 }
 
 /// How many microseconds the locks take.
-fn time_locks<R: Threads + Wait + Sync + Clock>(rt: &R, alloc: Global, threads: usize) -> io::Result<u128> {
+fn time_locks<R: Threads + Wait + Sync + Clock>(
+    rt: &R,
+    alloc: Global,
+    threads: usize,
+) -> io::Result<u128> {
     let lock = Mutex::new(0);
     let start = Instant::now(rt)?;
     locks_at_once(rt, alloc, &lock, threads)?;

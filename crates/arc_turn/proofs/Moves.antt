@@ -59,7 +59,7 @@ module _ {T : Type 0} (history : T → History) (name : T → List ℕ) where
   -- a step may go on where it may from every standing that is in order
   allowed : (slots id : ℕ) (me : Sat T) (i : ℕ) (f : ℕ → ℕ) (then : ℕ → Sat T → Type 0)
       → ((d : Standing T) (views : List View) → IsInOrder history name d views → get_elem? views id ≡ some me.0
-        → Step_from (table_of d views) slots id me i f then)
+      → Step_from (table_of d views) slots id me i f then)
       → Allows Rule slots id me i f then
   allowed slots id me i f then go s r deep at =
       subst (λ t. Step_from t slots id me i f then) (sym r.is)
@@ -90,15 +90,18 @@ module _ {T : Type 0} (history : T → History) (name : T → List ℕ) where
             (λ j u _ f. others_draw d id n j u u.stage hit f) o.fits;
         drawn = λ t low high. dite (ℕ_discrete t d.next)
             (λ e. subst (λ u. Has (set views id w) (d'.owner u) (λ x. HasTicket u x.stage)) (sym e)
-              (w, ap (get_elem? (set views id w)) (owner_here d.owner d.next id) ∙ set_there views id w v at, refl))
+            (w, ap (get_elem? (set views id w)) (owner_here d.owner d.next id) ∙ set_there views id w v at, refl))
             (λ ne. subst (λ j. Has (set views id w) j (λ x. HasTicket t x.stage)) (sym (owner_else d.owner d.next id t ne))
-              (has_set views id (d.owner t) w v (λ x. HasTicket t x.stage) (λ x. HasTicket t x.stage) at
-              (λ h. absurd (subst (HasTicket t) idle h)) (λ _ _ h. h) (o.drawn t low (omega (arith, high, hit, ne)))));
+            (has_set views id (d.owner t) w v (λ x. HasTicket t x.stage) (λ x. HasTicket t x.stage) at
+            (λ h. absurd (subst (HasTicket t) idle h)) (λ _ _ h. h) (o.drawn t low (omega (arith, high, hit, ne)))));
         value = ⊎_elim (λ (h : IsHome history name d). inl h)
-            (λ (h : IsOut history name d views). inr (h.0, omega (arith, h.1, hit),
+            (λ (h : IsOut history name d views). inr (
+              h.0,
+              omega (arith, h.1, hit),
               subst (λ j. Has (set views id w) j (IsServed d.serving)) (sym (owner_else d.owner d.next id d.serving (λ e. omega (arith, h.1, e))))
-              (has_set views id (d.owner d.serving) w v (IsServed d.serving) (IsServed d.serving) at
-              (λ e. absurd (cc (idle, e))) (λ _ _ e. e) h.2))) o.value;
+                  (has_set views id (d.owner d.serving) w v (IsServed d.serving) (IsServed d.serving) at
+                  (λ e. absurd (cc (idle, e))) (λ _ _ e. e) h.2),
+            )) o.value;
         whole = (o.whole.0, has_set views id o.whole.0 w v (HasSeenAll d.log) (HasSeenAll d.log) at (λ e. (e.0, tt)) (λ _ _ e. e) o.whole.1);
       }
 
@@ -107,8 +110,8 @@ module _ {T : Type 0} (history : T → History) (name : T → List ℕ) where
       → Allows Rule slots id me 0 (λ x. either (eqb x n) (n + 1) x) (Drew (step slots 0 n (n + 1) none) me)
   draws slots id n me idle room = allowed slots id me 0 (λ x. either (eqb x n) (n + 1) x) (Drew (step slots 0 n (n + 1) none) me) (λ d views o at _ _ _.
       let Goal : ℕ → Type 0 = λ x. (w : View) × (a : Act (Option T)) × Valid (d.slot ∷ []) me.1 a
-          × Rule (stepped (table_of d views) 0 x id me.1 w a)
-          × Drew (step slots 0 n (n + 1) none) me d.next (w, carried_after me.1 a) in
+      × Rule (stepped (table_of d views) 0 x id me.1 w a)
+      × Drew (step slots 0 n (n + 1) none) me d.next (w, carried_after me.1 a) in
       dite (ℕ_discrete d.next n)
       (λ (hit : d.next ≡ n). subst (λ b. Goal (either b (n + 1) d.next)) (sym (eq-eqb d.next n hit)) (
         waiting me.0 d.next,
@@ -160,8 +163,8 @@ module _ {T : Type 0} (history : T → History) (name : T → List ℕ) where
       → v.stage ≡ Waits t → d.serving ≡ t → d.owner t ≡ id → IsHome history name d
   is_home d views id t v o at waits hit own = ⊎_elim (λ (h : IsHome history name d). h)
       (λ (h : IsOut history name d views).
-        let same : h.2.0 ≡ v = some-injective h.2.0 v (sym h.2.1 ∙ (ap (λ k. get_elem? views (d.owner k)) hit ∙ (ap (get_elem? views) own ∙ at))) in
-        absurd (cc (sym h.2.2, ap (λ (u : View). u.stage) same, waits))) o.value
+      let same : h.2.0 ≡ v = some-injective h.2.0 v (sym h.2.1 ∙ (ap (λ k. get_elem? views (d.owner k)) hit ∙ (ap (get_elem? views) own ∙ at))) in
+      absurd (cc (sym h.2.2, ap (λ (u : View). u.stage) same, waits))) o.value
 
   -- the rule after a seat found that it is its turn
   taken : (d : Standing T) (views : List View) (id t : ℕ) (v : View) (h : IsHome history name d) → IsInOrder history name d views
@@ -189,13 +192,16 @@ module _ {T : Type 0} (history : T → History) (name : T → List ℕ) where
       let mine : IsTrueOf d me.0 × HasDrawn d id t = subst (Fits d id me.0) waits (o.fits id me.0 at) in
       dite (ℕ_discrete d.serving t)
       (λ (hit : d.serving ≡ t). let h = is_home d views id t me.0 o at waits hit mine.1.2 in
-        let w : View = view_at (Serves t) (history h.0) me.0.name in (
+      let w : View = view_at (Serves t) (history h.0) me.0.name in (
         w,
         takes 0 (Some h.0),
         ap some h.1,
         record { standing = record d { slot = none }; views = set views id w; is = refl; order = taken d views id t me.0 h o at waits hit },
-        (mine.0.1, subst (λ s. LookedAt history name s me d.serving (w, (0, Some h.0) ∷ me.1)) (sym waits)
-          ((λ _. (h.0, refl, subst (λ l. IsPrefix me.0.seen l) (sym h.2) mine.0.0, h.3 ∙ sym mine.0.2)), λ miss. absurd (miss hit))),
+        (
+          mine.0.1,
+          subst (λ s. LookedAt history name s me d.serving (w, (0, Some h.0) ∷ me.1)) (sym waits)
+              ((λ _. (h.0, refl, subst (λ l. IsPrefix me.0.seen l) (sym h.2) mine.0.0, h.3 ∙ sym mine.0.2)), λ miss. absurd (miss hit)),
+        ),
       ))
       (λ (miss : d.serving ≢ t). (
         me.0,
@@ -229,8 +235,11 @@ module _ {T : Type 0} (history : T → History) (name : T → List ℕ) where
             (λ j u other f. others_count d log id t j u u.stage more own other f) o.fits;
         drawn = λ u low high. has_set views id (d.owner u) w v (λ x. HasTicket u x.stage) (λ x. HasTicket u x.stage) at
             (λ e. e) (λ _ _ e. e) (o.drawn u low high);
-        value = inr (mine.4, omega (arith, mine.1, mine.2),
-          (w, ap (get_elem? (set views id w)) own ∙ set_there views id w v at, serves ∙ ap (λ k. Serves k) mine.2));
+        value = inr (
+          mine.4,
+          omega (arith, mine.1, mine.2),
+          (w, ap (get_elem? (set views id w)) own ∙ set_there views id w v at, serves ∙ ap (λ k. Serves k) mine.2),
+        );
         whole = (id, (w, set_there views id w v at, (refl, subst IsLive (sym serves) tt)));
       }
 
@@ -288,7 +297,7 @@ module _ {T : Type 0} (history : T → History) (name : T → List ℕ) where
       let mine : Fits d id me.0 (Serves t) = subst (Fits d id me.0) turn (o.fits id me.0 at) in
       let small : (d.serving + 1) % 18446744073709551616 ≡ d.serving + 1 = omega (arith, mine.1, mine.2, o.tickets) in
       let Table : List (ℕ × Option T) → ℕ → State (Option T) View =
-          λ cs n. record { words = d.next ∷ n ∷ length d.log ∷ []; homes = homes_after (d.slot ∷ []) cs gives; views = set views id w } in (
+      λ cs n. record { words = d.next ∷ n ∷ length d.log ∷ []; homes = homes_after (d.slot ∷ []) cs gives; views = set views id w } in (
         w,
         gives,
         tt,
@@ -310,8 +319,11 @@ module _ {T : Type 0} (history : T → History) (name : T → List ℕ) where
     drawn = λ u low high. has_set views id (d.owner u) w v (λ y. HasTicket u y.stage) (λ y. HasTicket u y.stage) at
         (λ e. absurd (subst (HasTicket u) idle e)) (λ _ _ e. e) (o.drawn u low high);
     value = ⊎_elim (λ (h : IsHome history name d). inl h)
-        (λ (h : IsOut history name d views). inr (h.0, h.1,
-          has_set views id (d.owner d.serving) w v (IsServed d.serving) (IsServed d.serving) at (λ e. absurd (cc (idle, e))) (λ _ _ e. e) h.2)) o.value;
+        (λ (h : IsOut history name d views). inr (
+          h.0,
+          h.1,
+          has_set views id (d.owner d.serving) w v (IsServed d.serving) (IsServed d.serving) at (λ e. absurd (cc (idle, e))) (λ _ _ e. e) h.2,
+        )) o.value;
     whole = whole;
   }
 
@@ -348,7 +360,7 @@ module _ {T : Type 0} (history : T → History) (name : T → List ℕ) where
       let both : View = joined v w in
       let here : get_elem? r.views id ≡ some v = subst (λ (t : State (Option T) View). get_elem? t.views id ≡ some v) r.is at in
       let there₁ : get_elem? (set r.views id both) other ≡ some w =
-          subst (λ (t : State (Option T) View). get_elem? (set t.views id both) other ≡ some w) r.is at' in
+      subst (λ (t : State (Option T) View). get_elem? (set t.views id both) other ≡ some w) r.is at' in
       let there : get_elem? r.views other ≡ some w = sym (set_else r.views id other both apart) ∙ there₁ in
       let mine : IsTrueOf d v = subst (Fits d id v) idle (r.order.fits id v here) in
       let its : IsTrueOf d w = subst (Fits d other w) idle' (r.order.fits other w there) in
@@ -356,16 +368,23 @@ module _ {T : Type 0} (history : T → History) (name : T → List ℕ) where
       let second = second_begins v.seen w.seen d.log mine.0 its.0 in
       let within = longer_begins v.seen w.seen d.log mine.0 its.0 in
       let true : IsTrueOf d both = (within, ((first, refl), ((second, its.2 ∙ sym mine.2), tt)), mine.2) in
-      let one = idle_set d r.views id v both r.order here idle (subst (Fits d id both) (sym idle) true)
-          (r.order.whole.0, has_set r.views id r.order.whole.0 both v (HasSeenAll d.log) (HasSeenAll d.log) here
-            (λ e. (begins_back both.seen d.log within (subst (λ l. IsPrefix l both.seen) e.0 first), subst IsLive (sym idle) tt)) (λ _ _ e. e) r.order.whole.1) in
+      let one = idle_set d r.views id v both r.order here idle (subst (Fits d id both) (sym idle) true) (
+        r.order.whole.0,
+        has_set r.views id r.order.whole.0 both v (HasSeenAll d.log) (HasSeenAll d.log) here
+            (λ e. (begins_back both.seen d.log within (subst (λ l. IsPrefix l both.seen) e.0 first), subst IsLive (sym idle) tt)) (λ _ _ e. e) r.order.whole.1,
+      ) in
       let vs : List View = set r.views id both in
       let last : IsInOrder history name d (set vs other spent) = idle_set d vs other w spent one there₁ idle' tt
-          (dite {P = one.whole.0 ≡ other} (ℕ_discrete one.whole.0 other)
-            (λ (e : one.whole.0 ≡ other). let all : w.seen ≡ d.log = seen_there vs other w d.log there₁ (subst (λ k. Has vs k (HasSeenAll d.log)) e one.whole.1) in
-              (id, (both, set_else vs other id spent (λ k. apart (sym k)) ∙ set_there r.views id both v here,
-                (begins_back both.seen d.log within (subst (λ l. IsPrefix l both.seen) all second), subst IsLive (sym idle) tt))))
-            (λ (n : one.whole.0 ≢ other). (one.whole.0, (one.whole.1.0, set_else vs other one.whole.0 spent n ∙ one.whole.1.1, one.whole.1.2)))) in record {
+      (dite {P = one.whole.0 ≡ other} (ℕ_discrete one.whole.0 other)
+      (λ (e : one.whole.0 ≡ other). let all : w.seen ≡ d.log = seen_there vs other w d.log there₁ (subst (λ k. Has vs k (HasSeenAll d.log)) e one.whole.1) in (
+        id,
+        (
+          both,
+          set_else vs other id spent (λ k. apart (sym k)) ∙ set_there r.views id both v here,
+          (begins_back both.seen d.log within (subst (λ l. IsPrefix l both.seen) all second), subst IsLive (sym idle) tt),
+        ),
+      ))
+      (λ (n : one.whole.0 ≢ other). (one.whole.0, (one.whole.1.0, set_else vs other one.whole.0 spent n ∙ one.whole.1.1, one.whole.1.2)))) in record {
         standing = d;
         views = set (set s.views id both) other spent;
         is = ap (λ (t : State (Option T) View). record { words = t.words; homes = t.homes; views = set (set s.views id both) other spent }) r.is;

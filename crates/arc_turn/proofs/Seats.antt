@@ -21,7 +21,7 @@ module _ {A : Type 0} where
       → (j : ℕ) (b : A) → get_elem? (set l i a) j ≡ some b → K' j b
   each_set K K' l i a here others each j b e =
       ⊎_elim (λ (t : (j ≡ i) × (a ≡ b)). subst (λ (p : ℕ × A). K' p.0 p.1) (λ c. (sym t.0 c, t.1 c)) here)
-          (λ (t : (j ≢ i) × (get_elem? l j ≡ some b)). others j b t.0 (each j b t.1)) (at_set l i j a b e)
+      (λ (t : (j ≢ i) × (get_elem? l j ≡ some b)). others j b t.0 (each j b t.1)) (at_set l i j a b e)
 
   -- a fact of every place stays true where one more comes
   pub each_snoc : (K : ℕ → A → Type 0) (l : List A) (a : A) → ((j : ℕ) → K j a)
@@ -35,7 +35,7 @@ pub has_set : (views : List View) (i j : ℕ) (a b : View) (P Q : View → Type 
     → ((w : View) → j ≢ i → P w → Q w) → Has views j P → Has (set views i a) j Q
 has_set views i j a b P Q at here others h = dite (ℕ_discrete j i)
     (λ (e : j ≡ i). let same : h.0 ≡ b = some-injective h.0 b (sym h.1 ∙ (ap (get_elem? views) e ∙ at)) in
-      (a, ap (get_elem? (set views i a)) e ∙ set_there views i a b at, here (subst P same h.2)))
+    (a, ap (get_elem? (set views i a)) e ∙ set_there views i a b at, here (subst P same h.2)))
     (λ (n : j ≢ i). (h.0, set_else views i j a n ∙ h.1, others h.0 n h.2))
 
 -- the same after one more view came

@@ -38,7 +38,12 @@ pub(crate) fn draw<T: Historied, R: Wait>(rt: &R, top: &Top<T>, place: &mut Plac
 }
 
 /// Waits until the ticket is served. The slot is then out with the seat.
-pub(crate) fn await_turn<T: Historied, R: Wait>(rt: &R, top: &Top<T>, place: &mut Place<T>, ticket: u64)
+pub(crate) fn await_turn<T: Historied, R: Wait>(
+    rt: &R,
+    top: &Top<T>,
+    place: &mut Place<T>,
+    ticket: u64,
+)
     requires own { (place.old.table_id ≡ top.now.table_id) × (top.now.table_id.words ≡ 3) }
     requires waits { place.old.me.0.stage ≡ Waits ticket }
     ensures same { IsSame place.old place.new }

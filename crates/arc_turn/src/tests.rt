@@ -65,7 +65,11 @@ fn add<R: Wait>(rt: &R, turn: &Turn<Numbers>, pass: &mut Pass, number: u64) -> R
 }
 
 /// A pass that adds a number, and one that was split from it before and meets it afterwards.
-fn add_and_meet<R: Wait>(rt: &R, turn: &Turn<Numbers>, mut pass: Pass) -> Result<(Pass, Pass), Memory>
+fn add_and_meet<R: Wait>(
+    rt: &R,
+    turn: &Turn<Numbers>,
+    mut pass: Pass,
+) -> Result<(Pass, Pass), Memory>
     requires { IsFree turn.now pass }
     ensures free { IfOk result (λ r. IsFree turn.now r.0 × IsFree turn.now r.1) }
     ensures seen { IfOk result (λ r. (found : List (List ℕ)) × (r.0.seen ≡ found ++ (7 ∷ []) ∷ [])
@@ -91,7 +95,12 @@ fn a_pass_that_meets_another_has_seen_its_entry(rt: HostRuntime) -> Result<(), F
 }
 
 /// Adds the thousand numbers of a thread, in order.
-fn add_all<R: Wait>(rt: &R, turn: &Turn<Numbers>, mut pass: Pass, thread: u64) -> Result<Pass, Memory>
+fn add_all<R: Wait>(
+    rt: &R,
+    turn: &Turn<Numbers>,
+    mut pass: Pass,
+    thread: u64,
+) -> Result<Pass, Memory>
     requires { IsFree turn.now pass × (thread < 4) }
     ensures { IfOk result (λ p. IsFree turn.now p) }
 {
@@ -155,7 +164,9 @@ fn add_in_four<R: Threads + Wait + Sync>(
 }
 
 #[test]
-fn each_entry_of_four_threads_stands_once_and_in_its_threads_order(rt: HostRuntime) -> Result<(), Fail> {
+fn each_entry_of_four_threads_stands_once_and_in_its_threads_order(
+    rt: HostRuntime,
+) -> Result<(), Fail> {
     let alloc = rt.alloc();
     let (turn, pass) = Turn::new(alloc, Numbers::new(alloc))?;
     let mut pass = add_in_four(&rt, &turn, pass)?;
