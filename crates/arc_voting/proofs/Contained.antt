@@ -65,7 +65,7 @@ pub part_is : {X : Type 0} (start place : ℕ) (xs : List X) → start ≤ place
 part_is start place xs le =
     let e : start + (place - start) ≡ place = omega arith in
     let h : drop start (take (start + (place - start)) xs) ≡ take (place - start) (drop start xs) =
-        drop-take start (place - start) xs in
+    drop-take start (place - start) xs in
     sym (rw e at h)
 
 -- what stands at a place stands in the rest from an earlier place on

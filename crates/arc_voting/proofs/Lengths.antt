@@ -1,10 +1,10 @@
 -- The commands that a journal applied, one entry after another.
-use Rattle.std.proofs.Common.{◌≡◌, ℕ, ◌+◌, ◌<◌, ◌≤◌, Option, Some, None, List, [], ◌∷◌, ◌++◌, length, take, drop, get_or, subst, sym, ◌∙◌, ap, arith, refl, add-one, length-append, append_assoc}
+use Rattle.std.proofs.Common.{◌≡◌, ℕ, ◌+◌, ◌<◌, Some, None, List, [], ◌∷◌, ◌++◌, length, take, drop, get_or, sym, ◌∙◌, ap, arith, refl, add-one, length-append, append_assoc}
 use Rattle.std.specs.List.{filter_map, slice_get}
 use Rattle.std.proofs.Math.Seq.{take-suc, get_or-append_seam}
-use Rattle.std.proofs.lemmas.List.{take-append-drop, take_all}
+use Rattle.std.proofs.lemmas.List.{take-append-drop}
 use Rattle.std.proofs.lemmas.List.Elements.{filter_map-append}
-use Rattle.std.proofs.lemmas.Option.{slice_get_read, slice_get_past}
+use Rattle.std.proofs.lemmas.Option.{slice_get_read}
 use Rattle.arc_command.specs.declared.command.Command.{Command}
 use Rattle.arc_command.specs.declared.record.Record.{Record}
 use Rattle.arc_voting.specs.Lists.{applied, closed_by}
@@ -39,13 +39,13 @@ applied_here xs i x c lt at some =
     let front : List Command = applied (take i xs) in
     let rest : List Command = applied (drop (i + 1) xs) in
     let e : applied (take (i + 1) xs) ≡ front ++ c ∷ [] =
-        more xs i x lt at ∙ ap (λ ys. front ++ ys) (let f : filter_map closed_by (x ∷ []) ≡ c ∷ [] = rw some refl in f) in
+    more xs i x lt at ∙ ap (λ ys. front ++ ys) (let f : filter_map closed_by (x ∷ []) ≡ c ∷ [] = rw some refl in f) in
     let whole : applied xs ≡ (front ++ c ∷ []) ++ rest =
-        ap applied (sym (take-append-drop (i + 1) xs)) ∙ filter_map-append closed_by (take (i + 1) xs) (drop (i + 1) xs)
-            ∙ ap (λ ys. ys ++ rest) e in
+    ap applied (sym (take-append-drop (i + 1) xs)) ∙ filter_map-append closed_by (take (i + 1) xs) (drop (i + 1) xs)
+    ∙ ap (λ ys. ys ++ rest) e in
     let joined : (front ++ c ∷ []) ++ rest ≡ front ++ c ∷ rest = simp append_assoc in
     let l : length (front ++ c ∷ rest) ≡ length front + length (c ∷ rest) = length-append front (c ∷ rest) in
     let small : length front < length (front ++ c ∷ rest) = omega arith in
     let there : slice_get (front ++ c ∷ rest) (length front) ≡ Some c =
-        slice_get_read (front ++ c ∷ rest) (length (front ++ c ∷ rest)) (length front) c refl small (sym (get_or-append_seam front c rest c)) in
+    slice_get_read (front ++ c ∷ rest) (length (front ++ c ∷ rest)) (length front) c refl small (sym (get_or-append_seam front c rest c)) in
     ap (λ ys. slice_get ys (length front)) (whole ∙ joined) ∙ there

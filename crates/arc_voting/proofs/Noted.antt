@@ -1,5 +1,5 @@
 -- What a walk along a journal knows after one entry more.
-use Rattle.std.proofs.Common.{◌≡◌, ◌≢◌, ℕ, zero, ◌+◌, ◌-◌, ◌*◌, ◌<◌, ◌≤◌, ◌⊎◌, ◌↔◌, inl, inr, Bool, true, false, cond, IsTrue, List, [], ◌∷◌, length, take, drop, get_or, subst, sym, ◌∙◌, ap, arith, refl, Option, Some, IfSome}
+use Rattle.std.proofs.Common.{◌≡◌, ◌≢◌, ℕ, ◌+◌, ◌-◌, ◌<◌, ◌≤◌, ◌⊎◌, ◌↔◌, inl, inr, Bool, true, false, cond, IsTrue, List, [], length, take, drop, get_or, subst, sym, ◌∙◌, ap, arith, refl, Option, Some, IfSome}
 use Rattle.std.specs.List.{Contains, slice_get, count_by}
 use Rattle.std.proofs.lemmas.Bool.{cases_lt}
 use Rattle.std.proofs.lemmas.List.{length-take-le, get_or-take}
@@ -9,10 +9,10 @@ use Rattle.arc_command.specs.declared.command.Command.{Command}
 use Rattle.arc_command.specs.declared.record.Record.{Record}
 use Rattle.arc_command.specs.declared.record.Record.TheVariants.{Opened, Promised, Voted, Closed}
 use Rattle.arc_voting.specs.declared.formed.Seen.{Seen}
-use Rattle.arc_voting.specs.Votes.{is_closed, closed_len, promise, promise_after}
-use Rattle.arc_voting.specs.Journals.{is_opened, opened_count}
-use Rattle.arc_voting.specs.Chosen.{OnVote, HoldsVote}
-use Rattle.arc_voting.specs.Formed.{Fits, IsBallot, IsAbovePromises, IsOneCommand, IsPromise, IsVote}
+use Rattle.arc_voting.specs.Votes.{is_closed, promise, promise_after}
+use Rattle.arc_voting.specs.Journals.{is_opened}
+use Rattle.arc_voting.specs.Chosen.{HoldsVote}
+use Rattle.arc_voting.specs.Formed.{Fits, IsBallot, IsOneCommand, IsPromise, IsVote}
 use Rattle.arc_voting.specs.Walk.{Describes, IsFitBehind}
 use Rattle.arc_voting.proofs.Contained.{contains_more, contains_still, contains_now, contains_drop, contains_from, part_is}
 use Rattle.arc_voting.proofs.Walks.{on_votes_at, on_votes_from, place_in_front}
@@ -76,27 +76,35 @@ describes_next seen next journal place entry lt at known step = record {
   last = step.last ∙ ap (λ n. promise_after n entry) known.last ∙ sym (promise_more journal place entry lt at);
   highest = λ from ballot there.
       elim (contains_more journal place entry (Promised from ballot) lt at there) [
-        inl former ↦ step.before from ballot former
-      | inr now ↦ step.here from ballot now ];
+        | inl former ↦ step.before from ballot former
+        | inr now ↦ step.here from ballot now
+      ];
   promised = elim step.promised [
-      inl same ↦ elim known.promised [
-          inl none ↦ inl (same ∙ none)
-        | inr (from, there) ↦ inr (from,
-            (let P : ℕ → Type 0 = λ n. Contains (take (place + 1) journal) (Promised from n) in
-             subst P (sym same) (contains_still journal place entry (Promised from seen.promise) lt at there))) ]
-    | inr (from, now) ↦ inr (from,
-        (let P : Record → Type 0 = λ r. Contains (take (place + 1) journal) r in
-         subst P now (contains_now journal place entry lt at))) ];
+    | inl same ↦ elim known.promised [
+      | inl none ↦ inl (same ∙ none)
+      | inr (from, there) ↦ inr (
+        from,
+        (let P : ℕ → Type 0 = λ n. Contains (take (place + 1) journal) (Promised from n) in
+            subst P (sym same) (contains_still journal place entry (Promised from seen.promise) lt at there)),
+      )
+    ]
+    | inr (from, now) ↦ inr (
+      from,
+      (let P : Record → Type 0 = λ r. Contains (take (place + 1) journal) r in
+          subst P now (contains_now journal place entry lt at)),
+    )
+  ];
   start = step.start;
   small = (omega (arith, step.opened, known.small.0, opened_small entry), omega (arith, step.closed, known.small.1, closed_small entry));
   recent = λ k slot ballot c below there.
       elim (below_next k place below) [
-        inl less ↦ step.earlier k slot (known.recent k slot ballot c less there)
-      | inr same ↦
-          (let here : slice_get journal place ≡ Some (Voted slot ballot c) = (let P : ℕ → Type 0 = λ n. slice_get journal n ≡ Some (Voted slot ballot c) in subst P same there) in
-           let read : slice_get journal place ≡ Some entry = slice_get_read journal (length journal) place entry refl lt at in
-           let vote : (slot ≡ next.closed) × (next.start ≤ place) = step.vote slot ballot c (same_Some entry (Voted slot ballot c) (sym read ∙ here)) in
-           inr (vote.0, omega (arith, vote.1, same))) ];
+        | inl less ↦ step.earlier k slot (known.recent k slot ballot c less there)
+        | inr same ↦
+            (let here : slice_get journal place ≡ Some (Voted slot ballot c) = (let P : ℕ → Type 0 = λ n. slice_get journal n ≡ Some (Voted slot ballot c) in subst P same there) in
+            let read : slice_get journal place ≡ Some entry = slice_get_read journal (length journal) place entry refl lt at in
+            let vote : (slot ≡ next.closed) × (next.start ≤ place) = step.vote slot ballot c (same_Some entry (Voted slot ballot c) (sym read ∙ here)) in
+            inr (vote.0, omega (arith, vote.1, same)))
+      ];
 }
 
 -- an entry that fits fits behind those before it
@@ -110,8 +118,13 @@ fits_behind promises journal place entry lt at fits =
 pub notes_opened : (seen : Seen) (journal : List Record) (place inc : ℕ) → Describes seen journal place →
     IsNext seen (record { opened = seen.opened + 1; closed = seen.closed; promise = seen.promise; start = seen.start }) journal place (Opened inc)
 notes_opened seen journal place inc known = record {
-  opened = refl; closed = omega arith; last = refl; before = known.highest;
-  here = λ from ballot same. cc; promised = inl refl; start = omega (arith, known.start);
+  opened = refl;
+  closed = omega arith;
+  last = refl;
+  before = known.highest;
+  here = λ from ballot same. cc;
+  promised = inl refl;
+  start = omega (arith, known.start);
   earlier = λ k slot was. was;
   vote = λ slot ballot c same. cc;
 }
@@ -120,10 +133,13 @@ pub notes_promised : (seen : Seen) (journal : List Record) (place promises from 
     IsPromise promises (take place journal) from ballot →
     IsNext seen (record { opened = seen.opened; closed = seen.closed; promise = ballot; start = seen.start }) journal place (Promised from ballot)
 notes_promised seen journal place promises from ballot known fits = record {
-  opened = omega arith; closed = omega arith; last = refl;
+  opened = omega arith;
+  closed = omega arith;
+  last = refl;
   before = λ f b there. omega (arith, fits.higher f b there);
   here = λ f b same. (let e : ballot ≡ b = cc in omega arith);
-  promised = inr (from, refl); start = omega (arith, known.start);
+  promised = inr (from, refl);
+  start = omega (arith, known.start);
   earlier = λ k slot was. was;
   vote = λ slot b c same. cc;
 }
@@ -131,8 +147,13 @@ notes_promised seen journal place promises from ballot known fits = record {
 pub notes_voted : (seen : Seen) (journal : List Record) (place promises slot ballot : ℕ) (c : Command) → Describes seen journal place →
     IsVote promises (take place journal) slot ballot c → IsNext seen seen journal place (Voted slot ballot c)
 notes_voted seen journal place promises slot ballot c known fits = record {
-  opened = omega arith; closed = omega arith; last = refl; before = known.highest;
-  here = λ from b same. cc; promised = inl refl; start = omega (arith, known.start);
+  opened = omega arith;
+  closed = omega arith;
+  last = refl;
+  before = known.highest;
+  here = λ from b same. cc;
+  promised = inl refl;
+  start = omega (arith, known.start);
   earlier = λ k s was. was;
   vote = λ s b d same. (let e : slot ≡ s = cc in (sym e ∙ fits.at_the_end ∙ sym known.closed, known.start));
 }
@@ -140,8 +161,13 @@ notes_voted seen journal place promises slot ballot c known fits = record {
 pub notes_closed : (seen : Seen) (journal : List Record) (place slot : ℕ) (c : Command) → Describes seen journal place →
     IsNext seen (record { opened = seen.opened; closed = seen.closed + 1; promise = seen.promise; start = place + 1 }) journal place (Closed slot c)
 notes_closed seen journal place slot c known = record {
-  opened = omega arith; closed = refl; last = refl; before = known.highest;
-  here = λ from b same. cc; promised = inl refl; start = omega arith;
+  opened = omega arith;
+  closed = refl;
+  last = refl;
+  before = known.highest;
+  here = λ from b same. cc;
+  promised = inl refl;
+  start = omega arith;
   earlier = λ k s was. elim was [ inl less ↦ inl (omega arith) | inr (same, on) ↦ inl (omega (arith, same)) ];
   vote = λ s b d same. cc;
 }
@@ -151,21 +177,23 @@ pub not_higher : (seen : Seen) (journal : List Record) (place promises from ball
     ballot ≤ seen.promise → IsPromise promises (take place journal) from ballot → ⊥
 not_higher seen journal place promises from ballot known low fits =
     elim known.promised [
-      inl none ↦ absurd (omega (arith, none, low, fits.in_range.0))
-    | inr (f, there) ↦ (let above : seen.promise < ballot = fits.higher f seen.promise there in absurd (omega arith)) ]
+      | inl none ↦ absurd (omega (arith, none, low, fits.in_range.0))
+      | inr (f, there) ↦ (let above : seen.promise < ballot = fits.higher f seen.promise there in absurd (omega arith))
+    ]
 
 -- a promise at the end, above the highest one so far, fits where its ballot is in range
 pub promise_fits : (seen : Seen) (journal : List Record) (place promises from ballot : ℕ) (b : Bool) → place < length journal →
     Describes seen journal place → (place ≡ 0 → ⊥) → from ≡ seen.closed → seen.promise < ballot → IsTrue b ↔ IsBallot promises ballot →
     IsTrue b ↔ IsPromise promises (take place journal) from ballot
-promise_fits seen journal place promises from ballot b lt known some here above decides =
-    (λ is. record {
-       not_first = front_not_empty place journal lt some;
-       at_the_end = here ∙ known.closed;
-       higher = λ f earlier there. (let low : earlier < seen.promise + 1 = known.highest f earlier there in omega arith);
-       in_range = decides.0 is;
-     },
-     λ fits. decides.1 fits.in_range)
+promise_fits seen journal place promises from ballot b lt known some here above decides = (
+  λ is. record {
+    not_first = front_not_empty place journal lt some;
+    at_the_end = here ∙ known.closed;
+    higher = λ f earlier there. (let low : earlier < seen.promise + 1 = known.highest f earlier there in omega arith);
+    in_range = decides.0 is;
+  },
+  λ fits. decides.1 fits.in_range,
+)
 
 -- votes at the open slot stand in the part from the start on
 recent_in_part : (seen : Seen) (journal : List Record) (place slot ballot : ℕ) (c : Command) → place < length journal →
@@ -173,16 +201,16 @@ recent_in_part : (seen : Seen) (journal : List Record) (place slot ballot : ℕ)
     HoldsVote (take (place - seen.start) (drop seen.start journal)) slot ballot c
 recent_in_part seen journal place slot ballot c lt known here there =
     let found : (k : ℕ) × (k < place) × (slice_get journal k ≡ Some (Voted slot ballot c)) × (get_or journal k (Voted slot ballot c) ≡ Voted slot ballot c) =
-        place_in_front place journal (Voted slot ballot c) (omega arith) there in
+    place_in_front place journal (Voted slot ballot c) (omega arith) there in
     let on : seen.start ≤ found.0 =
-        elim (known.recent found.0 slot ballot c found.1 found.2) [ inl less ↦ absurd (omega (arith, less, here)) | inr (same, on) ↦ on ] in
+    elim (known.recent found.0 slot ballot c found.1 found.2) [ inl less ↦ absurd (omega (arith, less, here)) | inr (same, on) ↦ on ] in
     let l : length (take place journal) ≡ place = length-take-le place journal (omega arith) in
     let small : found.0 < length (take place journal) = omega (arith, found.1, l) in
     let at : get_or (take place journal) found.0 (Voted slot ballot c) ≡ Voted slot ballot c =
-        get_or-take place journal found.0 (Voted slot ballot c) found.1 ∙ found.3 in
+    get_or-take place journal found.0 (Voted slot ballot c) found.1 ∙ found.3 in
     let P : List Record → Type 0 = λ xs. HoldsVote xs slot ballot c in
     subst P (sym (part_is seen.start place journal known.start))
-        (contains_from seen.start found.0 (take place journal) (Voted slot ballot c) on small at)
+    (contains_from seen.start found.0 (take place journal) (Voted slot ballot c) on small at)
 
 part_in_front : (seen : Seen) (journal : List Record) (place slot ballot : ℕ) (c : Command) → Describes seen journal place →
     HoldsVote (take (place - seen.start) (drop seen.start journal)) slot ballot c → HoldsVote (take place journal) slot ballot c
@@ -196,11 +224,12 @@ pub one_command_in_part : (seen : Seen) (journal : List Record) (place slot ball
     IsOneCommand (take (place - seen.start) (drop seen.start journal)) slot ballot c ↔ IsOneCommand (take place journal) slot ballot c
 one_command_in_part seen journal place slot ballot c lt known here =
     let P : ℕ → ℕ → Command → Type 0 = λ s b d. s ≡ slot → b ≡ ballot → d ≡ c in
-    let part : List Record = take (place - seen.start) (drop seen.start journal) in
-    (λ one. on_votes_from P (take place journal) (λ s b d there same_slot same_ballot.
-        on_votes_at P part s b d one (recent_in_part seen journal place s b d lt known (same_slot ∙ here) there) same_slot same_ballot),
-     λ one. on_votes_from P part (λ s b d there.
-        on_votes_at P (take place journal) s b d one (part_in_front seen journal place s b d known there)))
+    let part : List Record = take (place - seen.start) (drop seen.start journal) in (
+      λ one. on_votes_from P (take place journal) (λ s b d there same_slot same_ballot.
+          on_votes_at P part s b d one (recent_in_part seen journal place s b d lt known (same_slot ∙ here) there) same_slot same_ballot),
+      λ one. on_votes_from P part (λ s b d there.
+          on_votes_at P (take place journal) s b d one (part_in_front seen journal place s b d known there)),
+    )
 
 -- a vote at the end, in a ballot that may be voted in, fits where no other command has its slot and ballot
 pub vote_fits : (seen : Seen) (journal : List Record) (place promises slot ballot : ℕ) (c : Command) (b : Bool) → place < length journal →
@@ -209,12 +238,13 @@ pub vote_fits : (seen : Seen) (journal : List Record) (place promises slot ballo
     IsTrue b ↔ IsVote promises (take place journal) slot ballot c
 vote_fits seen journal place promises slot ballot c b lt known some here above range decides =
     let same : IsOneCommand (take (place - seen.start) (drop seen.start journal)) slot ballot c ↔ IsOneCommand (take place journal) slot ballot c =
-        one_command_in_part seen journal place slot ballot c lt known here in
-    (λ is. record {
-       not_first = front_not_empty place journal lt some;
-       at_the_end = here ∙ known.closed;
-       not_below = (let e : seen.promise ≡ promise (take place journal) = known.last in omega arith);
-       one_command = same.0 (decides.0 is);
-       in_range = range;
-     },
-     λ fits. decides.1 (same.1 fits.one_command))
+    one_command_in_part seen journal place slot ballot c lt known here in (
+      λ is. record {
+        not_first = front_not_empty place journal lt some;
+        at_the_end = here ∙ known.closed;
+        not_below = (let e : seen.promise ≡ promise (take place journal) = known.last in omega arith);
+        one_command = same.0 (decides.0 is);
+        in_range = range;
+      },
+      λ fits. decides.1 (same.1 fits.one_command),
+    )

@@ -1,5 +1,5 @@
 -- What a rule asks of the entry at a place.
-use Rattle.std.proofs.Common.{◌≡◌, ◌≢◌, ℕ, ◌+◌, ◌%◌, ◌<◌, ◌≤◌, ◌⊎◌, ◌↔◌, inl, inr, Bool, true, false, IsTrue, Option, Some, None, IfSome, MatchOption, List, length, get_or, subst, sym, ◌∙◌, ap, arith, refl}
+use Rattle.std.proofs.Common.{◌≡◌, ◌≢◌, ℕ, ◌%◌, ◌<◌, ◌↔◌, Bool, true, IsTrue, Option, Some, None, IfSome, MatchOption, List, length, get_or, subst, sym, arith, refl}
 use Rattle.std.specs.List.{slice_get}
 use Rattle.std.proofs.lemmas.Option.{slice_get_read}
 use Rattle.arc_command.specs.declared.command.Command.{Command}
@@ -13,7 +13,7 @@ use Rattle.arc_voting.specs.Journals.{Journals}
 use Rattle.arc_voting.specs.Chosen.{OnVote, HoldsVote, IsChosen}
 use Rattle.arc_voting.specs.Settled.{LowerAreSettled}
 use Rattle.arc_voting.specs.Ids.{StartsAtItsNode, HasNoEarlierDouble, IsNotChosenBelow}
-use Rattle.arc_voting.specs.Sound.{OnClosed, OnVoteAt, VoteKeeps, Keeps, IsKept, IsSound, IsFirstBreachOf, IsFirstBreach, StandsBefore}
+use Rattle.arc_voting.specs.Sound.{OnClosed, VoteKeeps, Keeps, IsKept, IsSound, IsFirstBreach}
 use Rattle.arc_voting.specs.Walk.{IsFirstUnder}
 
 -- the entry that stands at a place
@@ -58,7 +58,7 @@ pub closed_decides : (js : Journals) (rule : Rule) (node place slot : ℕ) (c : 
     IsTrue b ↔ IsChosen js slot c → IsTrue b ↔ Keeps js rule node place
 closed_decides js rule node place slot c b at is decides =
     let iff : IsChosen js slot c ↔ Keeps js V4 node place =
-        some_iff (λ entry. OnClosed entry (λ s d. IsChosen js s d)) (js node) place (Closed slot c) at in
+    some_iff (λ entry. OnClosed entry (λ s d. IsChosen js s d)) (js node) place (Closed slot c) at in
     let P : Rule → Type 0 = λ r. IsTrue b ↔ Keeps js r node place in
     subst P (sym is) (λ t. iff.0 (decides.0 t), λ keeps. decides.1 (iff.1 keeps))
 

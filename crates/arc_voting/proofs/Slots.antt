@@ -1,5 +1,5 @@
 -- What the parts of one slot show.
-use Rattle.std.proofs.Common.{◌≡◌, ℕ, ◌+◌, ◌-◌, ◌<◌, ◌≤◌, ◌⊎◌, ◌↔◌, inl, inr, Bool, true, false, not, IsTrue, List, [], ◌∷◌, length, take, drop, subst, sym, arith, refl, nat_le, max, if◌then◌else◌}
+use Rattle.std.proofs.Common.{◌≡◌, ℕ, ◌-◌, ◌<◌, ◌≤◌, ◌⊎◌, ◌↔◌, inl, inr, Bool, true, false, not, IsTrue, List, [], ◌∷◌, subst, arith, refl, nat_le, max, if◌then◌else◌}
 use Rattle.std.specs.List.{fold, Contains}
 use Rattle.std.proofs.lemmas.Bool.Decides.{nat_tests}
 use Rattle.std.proofs.lemmas.Bool.{leb-true, cases_lt}
@@ -8,7 +8,7 @@ use Rattle.arc_command.specs.declared.record.Record.{Record}
 use Rattle.arc_command.specs.declared.record.Record.TheVariants.{Opened, Promised, Voted, Closed}
 use Rattle.arc_voting.specs.declared.slot.Part.{Part}
 use Rattle.arc_voting.specs.Chosen.{HoldsVote}
-use Rattle.arc_voting.specs.Settled.{HoldsNoVote, HasPromisedAbove, Settles}
+use Rattle.arc_voting.specs.Settled.{HasPromisedAbove, Settles}
 use Rattle.arc_voting.specs.Parts.{VotesAt, part_of, ShowsPart}
 use Rattle.arc_voting.proofs.Contained.{contains_part, contains_cons, contains_head, contains_tail}
 
@@ -18,9 +18,10 @@ pub vote_in_part : (journal : List Record) (slot : ℕ) (part : Part) (entries :
     IsTrue b ↔ HoldsVote entries slot ballot c → IsTrue b ↔ HoldsVote journal slot ballot c
 vote_in_part journal slot part entries b ballot c shows same holds =
     let P : List Record → Type 0 = λ xs. IsTrue b ↔ HoldsVote xs slot ballot c in
-    let here : IsTrue b ↔ HoldsVote (part_of journal part) slot ballot c = subst P same holds in
-    (λ is. contains_part (part.end - part.start) part.start journal (Voted slot ballot c) (here.0 is),
-     λ there. here.1 (shows.votes ballot c there))
+    let here : IsTrue b ↔ HoldsVote (part_of journal part) slot ballot c = subst P same holds in (
+      λ is. contains_part (part.end - part.start) part.start journal (Voted slot ballot c) (here.0 is),
+      λ there. here.1 (shows.votes ballot c there),
+    )
 
 -- some vote at a ballot stands in the part exactly where one stands in the journal
 pub votes_in_part : (journal : List Record) (slot : ℕ) (part : Part) (entries : List Record) (b : Bool) (ballot : ℕ) →
@@ -28,10 +29,11 @@ pub votes_in_part : (journal : List Record) (slot : ℕ) (part : Part) (entries 
     IsTrue b ↔ VotesAt entries slot ballot → IsTrue b ↔ VotesAt journal slot ballot
 votes_in_part journal slot part entries b ballot shows same holds =
     let P : List Record → Type 0 = λ xs. IsTrue b ↔ VotesAt xs slot ballot in
-    let here : IsTrue b ↔ VotesAt (part_of journal part) slot ballot = subst P same holds in
-    (λ is. let found : VotesAt (part_of journal part) slot ballot = here.0 is in
-        (found.0, contains_part (part.end - part.start) part.start journal (Voted slot ballot found.0) found.1),
-     λ there. here.1 (there.0, shows.votes ballot there.0 there.1))
+    let here : IsTrue b ↔ VotesAt (part_of journal part) slot ballot = subst P same holds in (
+      λ is. let found : VotesAt (part_of journal part) slot ballot = here.0 is in
+          (found.0, contains_part (part.end - part.start) part.start journal (Voted slot ballot found.0) found.1),
+      λ there. here.1 (there.0, shows.votes ballot there.0 there.1),
+    )
 
 -- a promise from this slot or a lower one raises what a journal reaches
 abbrev pub raised_by : ℕ → ℕ → Record → ℕ
@@ -69,8 +71,9 @@ raised_test : (slot reach from higher ballot : ℕ) (b : Bool) → nat_le from s
 raised_test slot reach from higher ballot false is lt = inl lt
 raised_test slot reach from higher ballot true is lt =
     elim (below_max ballot reach higher lt) [
-      inl less ↦ inl less
-    | inr more ↦ inr (from, higher, refl, more, leb-true from slot is) ]
+      | inl less ↦ inl less
+      | inr more ↦ inr (from, higher, refl, more, leb-true from slot is)
+    ]
 
 -- what is reached after one entry was reached before, or the entry promises it
 raised_from : (slot reach : ℕ) (entry : Record) (ballot : ℕ) → ballot < raised_by slot reach entry →
@@ -92,8 +95,9 @@ pub reached_by : (slot reach : ℕ) (entries : List Record) (ballot : ℕ) → H
 reached_by slot reach [] ballot (from, higher, there, above, low) = absurd (omega (arith, there.1))
 reached_by slot reach (entry ∷ entries) ballot (from, higher, there, above, low) =
     elim (contains_cons entry entries (Promised from higher) there) [
-      inl same ↦ reached_on slot (raised_by slot reach entry) entries ballot (raised_to slot reach entry from higher ballot same above low)
-    | inr later ↦ reached_by slot (raised_by slot reach entry) entries ballot (from, higher, later, above, low) ]
+      | inl same ↦ reached_on slot (raised_by slot reach entry) entries ballot (raised_to slot reach entry from higher ballot same above low)
+      | inr later ↦ reached_by slot (raised_by slot reach entry) entries ballot (from, higher, later, above, low)
+    ]
 
 -- what is reached was reached before, or these entries promise it
 pub reached_from : (slot reach : ℕ) (entries : List Record) (ballot : ℕ) → ballot < fold (raised_by slot) reach entries →
@@ -101,38 +105,51 @@ pub reached_from : (slot reach : ℕ) (entries : List Record) (ballot : ℕ) →
 reached_from slot reach [] ballot lt = inl lt
 reached_from slot reach (entry ∷ entries) ballot lt =
     elim (reached_from slot (raised_by slot reach entry) entries ballot lt) [
-      inl before ↦ elim (raised_from slot reach entry ballot before) [
-        inl less ↦ inl less
-      | inr here ↦ inr (here.0, here.1,
-          (let P : Record → Type 0 = λ r. Contains (entry ∷ entries) r in subst P here.2 (contains_head entry entries)), here.3, here.4) ]
-    | inr (from, higher, there, above, low) ↦ inr (from, higher, contains_tail entry entries (Promised from higher) there, above, low) ]
+      | inl before ↦ elim (raised_from slot reach entry ballot before) [
+        | inl less ↦ inl less
+        | inr here ↦ inr (
+          here.0,
+          here.1,
+          (let P : Record → Type 0 = λ r. Contains (entry ∷ entries) r in subst P here.2 (contains_head entry entries)),
+          here.3,
+          here.4,
+        )
+      ]
+      | inr (from, higher, there, above, low) ↦ inr (from, higher, contains_tail entry entries (Promised from higher) there, above, low)
+    ]
 
 -- the highest ballot that entries promise from a slot or a lower one on
 pub reach_iff : (slot : ℕ) (entries : List Record) (ballot : ℕ) →
     HasPromisedAbove entries slot ballot ↔ (ballot < fold (raised_by slot) 0 entries)
-reach_iff slot entries ballot =
-    (reached_by slot 0 entries ballot,
-     λ lt. elim (reached_from slot 0 entries ballot lt) [ inl none ↦ absurd (omega (arith, none)) | inr found ↦ found ])
+reach_iff slot entries ballot = (
+  reached_by slot 0 entries ballot,
+  λ lt. elim (reached_from slot 0 entries ballot lt) [ inl none ↦ absurd (omega (arith, none)) | inr found ↦ found ],
+)
 
 -- a journal that doesn't vote so, and promised nothing above the ballot, doesn't settle it
 pub settles_not : (journal : List Record) (slot : ℕ) (part : Part) (voted : Bool) (ballot : ℕ) (c : Command) →
     ShowsPart journal slot part → IsTrue voted ↔ HoldsVote journal slot ballot c → voted ≡ false → part.reach ≤ ballot →
     IsTrue false ↔ Settles journal slot ballot c
-settles_not journal slot part voted ballot c shows decides is low =
-    (λ wrong. cc,
-     λ settles. elim settles [
-       inl vote ↦ (let yes' : voted ≡ true = decides.1 vote in cc)
-     | inr silent ↦ (let above : ballot < part.reach = (shows.promises ballot).0 silent.1 in absurd (omega arith)) ])
+settles_not journal slot part voted ballot c shows decides is low = (
+  λ wrong. cc,
+  λ settles. elim settles [
+    | inl vote ↦ (let yes' : voted ≡ true = decides.1 vote in cc)
+    | inr silent ↦ (let above : ballot < part.reach = (shows.promises ballot).0 silent.1 in absurd (omega arith))
+  ],
+)
 
 -- a journal that doesn't vote so, and promised something above the ballot, settles it exactly where it has no vote there
 pub settles_where_silent : (journal : List Record) (slot : ℕ) (part : Part) (voted some : Bool) (ballot : ℕ) (c : Command) →
     ShowsPart journal slot part → IsTrue voted ↔ HoldsVote journal slot ballot c → voted ≡ false → ballot < part.reach →
     IsTrue some ↔ VotesAt journal slot ballot → IsTrue (not some) ↔ Settles journal slot ballot c
-settles_where_silent journal slot part voted true ballot c shows decides is above any =
-    (λ wrong. cc,
-     λ settles. elim settles [
-       inl vote ↦ (let yes' : voted ≡ true = decides.1 vote in cc)
-     | inr silent ↦ (let found : VotesAt journal slot ballot = any.0 refl in absurd (silent.0 found.0 found.1)) ])
-settles_where_silent journal slot part voted false ballot c shows decides is above any =
-    (λ right. inr ((λ d vote. (let wrong : false ≡ true = any.1 (d, vote) in cc)), (shows.promises ballot).1 above),
-     λ settles. refl)
+settles_where_silent journal slot part voted true ballot c shows decides is above any = (
+  λ wrong. cc,
+  λ settles. elim settles [
+    | inl vote ↦ (let yes' : voted ≡ true = decides.1 vote in cc)
+    | inr silent ↦ (let found : VotesAt journal slot ballot = any.0 refl in absurd (silent.0 found.0 found.1))
+  ],
+)
+settles_where_silent journal slot part voted false ballot c shows decides is above any = (
+  λ right. inr ((λ d vote. (let wrong : false ≡ true = any.1 (d, vote) in cc)), (shows.promises ballot).1 above),
+  λ settles. refl,
+)

@@ -1,5 +1,5 @@
 -- Three of five nodes, by counting them.
-use Rattle.std.proofs.Common.{◌≡◌, ℕ, zero, suc, ◌+◌, ◌-◌, ◌<◌, ◌≤◌, ◌↔◌, Bool, true, false, cond, IsTrue, arith, ap, sym, ◌∙◌, refl, subst, add-one, add-zero, add-suc}
+use Rattle.std.proofs.Common.{◌≡◌, ℕ, zero, suc, ◌+◌, ◌-◌, ◌<◌, ◌≤◌, ◌↔◌, Bool, true, false, cond, IsTrue, arith, refl, subst, add-one, add-zero, add-suc}
 use Rattle.arc_voting.specs.Journals.{ByThree}
 
 -- how many numbers below n pass
@@ -62,7 +62,7 @@ pub last_counted : (passes : ℕ → Bool) (n m : ℕ) → m < count_upto passes
 last_counted passes zero m lt = absurd (omega arith)
 last_counted passes (suc n) m lt =
     let step : m < count_upto passes (n + 1) → Last passes (n + 1) m =
-        last_step passes n m (last_counted passes n m) (passes n) refl in
+    last_step passes n m (last_counted passes n m) (passes n) refl in
     let e : n + 1 ≡ suc n = add-one n in
     let P : ℕ → Type 0 = λ k. m < count_upto passes k → Last passes k m in
     subst P e step lt
@@ -82,10 +82,11 @@ three_found passes enough =
 
 -- at least three pass exactly where three are counted
 pub three_iff_counted : (passes : ℕ → Bool) → (3 ≤ count_upto passes 5) ↔ ByThree (λ n. IsTrue (passes n))
-three_iff_counted passes =
-    (three_found passes,
-     λ three. three_counted passes three.first three.second three.third three.ascending.0 three.ascending.1 three.ascending.2
-         three.each.0 three.each.1 three.each.2)
+three_iff_counted passes = (
+  three_found passes,
+  λ three. three_counted passes three.first three.second three.third three.ascending.0 three.ascending.1 three.ascending.2
+      three.each.0 three.each.1 three.each.2,
+)
 
 -- what holds of 0 to 4 holds of every number below five
 pub below_five : (P : ℕ → Type 0) → P 0 → P 1 → P 2 → P 3 → P 4 → (n : ℕ) → n < 5 → P n
@@ -103,10 +104,11 @@ by_three_map P Q f three = record {
   second = three.second;
   third = three.third;
   ascending = three.ascending;
-  each =
-      (f three.first (omega (arith, three.ascending.0, three.ascending.1, three.ascending.2)) three.each.0,
-       f three.second (omega (arith, three.ascending.1, three.ascending.2)) three.each.1,
-       f three.third three.ascending.2 three.each.2);
+  each = (
+    f three.first (omega (arith, three.ascending.0, three.ascending.1, three.ascending.2)) three.each.0,
+    f three.second (omega (arith, three.ascending.1, three.ascending.2)) three.each.1,
+    f three.third three.ascending.2 three.each.2,
+  );
 }
 
 pub by_three_iff : (P Q : ℕ → Type 0) → ((n : ℕ) → n < 5 → P n ↔ Q n) → ByThree P ↔ ByThree Q

@@ -1,9 +1,8 @@
 -- Why the votes of a slot stand in its part.
-use Rattle.std.proofs.Common.{◌≡◌, ◌≢◌, ℕ, zero, suc, ◌+◌, ◌-◌, ◌<◌, ◌≤◌, ◌⊎◌, ◌↔◌, inl, inr, Bool, true, false, cond, Option, Some, IfSome, MatchOption, List, [], ◌∷◌, ◌++◌, length, take, drop, get_or, subst, sym, ◌∙◌, ap, arith, refl, add-one, min, take-take, length-append}
-use Rattle.std.proofs.Math.Nat.{min-eq_left}
-use Rattle.std.specs.List.{Contains, slice_get, count_by}
+use Rattle.std.proofs.Common.{◌≡◌, ℕ, zero, suc, ◌+◌, ◌<◌, ◌≤◌, ◌⊎◌, inl, inr, Bool, true, false, cond, Option, Some, MatchOption, List, [], ◌∷◌, ◌++◌, length, take, drop, get_or, subst, sym, ◌∙◌, ap, arith, refl, add-one, take-take, length-append}
+use Rattle.std.specs.List.{slice_get, count_by}
 use Rattle.std.proofs.lemmas.Bool.{cases_lt}
-use Rattle.std.proofs.lemmas.List.{length-take-le, get_or-take, take_all}
+use Rattle.std.proofs.lemmas.List.{length-take-le, get_or-take}
 use Rattle.std.proofs.lemmas.List.Sums.{sum_by-take-drop}
 use Rattle.std.proofs.lemmas.Option.{slice_get_read, slice_get-get_or, slice_get_within, get_or_from_slice_get, same_Some}
 use Rattle.arc_command.specs.declared.command.Command.{Command}
@@ -16,20 +15,19 @@ use Rattle.arc_voting.specs.Chosen.{HoldsVote}
 use Rattle.arc_voting.specs.Settled.{HasPromisedAbove}
 use Rattle.arc_voting.specs.Formed.{Fits, IsPromise, IsVote}
 use Rattle.arc_voting.specs.Parts.{part_of, ShowsPart}
-use Rattle.arc_voting.specs.Sound.{IsWellFormedIn}
 use Rattle.arc_voting.specs.Tracks.{IsWellFormedWhole, IsTrackOf, ShowsOf}
 use Rattle.arc_voting.specs.declared.track.Track.{Track}
 use Rattle.arc_voting.specs.Walk.{Describes}
 use Rattle.arc_voting.proofs.Contained.{contains_take, contains_from, part_is}
 use Rattle.arc_voting.proofs.Walks.{place_in_front}
-use Rattle.arc_voting.proofs.Noted.{IsNext, describes_next, notes_opened, notes_promised, notes_voted, notes_closed, count_more, promise_more}
+use Rattle.arc_voting.proofs.Noted.{describes_next, notes_opened, notes_promised, notes_voted, notes_closed, count_more, promise_more}
 
 -- a longer front counts no fewer
 pub front_counts : (p : Record → Bool) (xs : List Record) (k n : ℕ) → k ≤ n → count_by p (take k xs) ≤ count_by p (take n xs)
 front_counts p xs k n le =
     let e : take k (take n xs) ≡ take k xs = take-take k n xs le in
     let parts : count_by p (take k (take n xs)) + count_by p (drop k (take n xs)) ≡ count_by p (take n xs) =
-        sum_by-take-drop (λ x. cond (p x) 1 0) (take n xs) k in
+    sum_by-take-drop (λ x. cond (p x) 1 0) (take n xs) k in
     let same : count_by p (take k (take n xs)) ≡ count_by p (take k xs) = ap (count_by p) e in
     omega arith
 
@@ -47,21 +45,29 @@ described_from promises journal place (Opened inc) seen lt at fits known =
     let next : Seen = record { opened = seen.opened + 1; closed = seen.closed; promise = seen.promise; start = seen.start } in
     (next, describes_next seen next journal place (Opened inc) lt at known (notes_opened seen journal place inc known))
 described_from promises journal place (Promised from ballot) seen lt at fits known =
-    let next : Seen = record { opened = seen.opened; closed = seen.closed; promise = ballot; start = seen.start } in
-    (next, describes_next seen next journal place (Promised from ballot) lt at known
-        (notes_promised seen journal place promises from ballot known fits))
-described_from promises journal place (Voted slot ballot c) seen lt at fits known =
-    (seen, describes_next seen seen journal place (Voted slot ballot c) lt at known
-        (notes_voted seen journal place promises slot ballot c known fits))
+    let next : Seen = record { opened = seen.opened; closed = seen.closed; promise = ballot; start = seen.start } in (
+      next,
+      describes_next seen next journal place (Promised from ballot) lt at known
+          (notes_promised seen journal place promises from ballot known fits),
+    )
+described_from promises journal place (Voted slot ballot c) seen lt at fits known = (
+  seen,
+  describes_next seen seen journal place (Voted slot ballot c) lt at known
+      (notes_voted seen journal place promises slot ballot c known fits),
+)
 described_from promises journal place (Closed slot c) seen lt at fits known =
     let next : Seen = record { opened = seen.opened; closed = seen.closed + 1; promise = seen.promise; start = place + 1 } in
     (next, describes_next seen next journal place (Closed slot c) lt at known (notes_closed seen journal place slot c known))
 
 described_none : (journal : List Record) → Describes (record { opened = 0; closed = 0; promise = 0; start = 0 }) journal 0
 described_none journal = record {
-  opened = refl; closed = refl; last = refl;
+  opened = refl;
+  closed = refl;
+  last = refl;
   highest = λ from ballot there. absurd (omega (arith, there.1));
-  promised = inl refl; start = omega arith; small = (omega arith, omega arith);
+  promised = inl refl;
+  start = omega arith;
+  small = (omega arith, omega arith);
   recent = λ k slot ballot c lt there. absurd (omega (arith, lt));
 }
 
@@ -78,7 +84,7 @@ described promises (first ∷ rest) (suc place) formed le =
     let here : slice_get journal place ≡ Some entry = slice_get-get_or journal place first lt in
     let at : entry ≡ get_or journal place entry = sym (get_or_from_slice_get journal place entry entry here) in
     let after : (next : Seen) × Describes next journal (place + 1) =
-        described_from promises journal place entry before.0 lt at (fits_at promises journal place entry formed here) before.1 in
+    described_from promises journal place entry before.0 lt at (fits_at promises journal place entry formed here) before.1 in
     let P : ℕ → Type 0 = λ n. (next : Seen) × Describes next journal n in
     subst P (add-one place) after
 
@@ -100,17 +106,20 @@ vote_within promises journal slot ballot c part formed placed (k, lt, at) =
     let fits : IsVote promises (take k journal) slot ballot c = fits_at promises journal k (Voted slot ballot c) formed here in
     let same : slot ≡ closed_len (take k journal) = fits.at_the_end in
     let on : part.start ≤ k = elim (cases_lt k part.start) [
-        inl less ↦ (let b : closed_len (take k journal) < slot = placed.below k less in absurd (omega arith)) | inr from ↦ from ] in
+      | inl less ↦ (let b : closed_len (take k journal) < slot = placed.below k less in absurd (omega arith))
+      | inr from ↦ from
+    ] in
     let before : k < part.end = elim (cases_lt k part.end) [
-        inl less ↦ less
-      | inr from ↦ (let b : slot < closed_len (take k journal) = placed.past k (Voted slot ballot c) from here refl in absurd (omega arith)) ] in
+      | inl less ↦ less
+      | inr from ↦ (let b : slot < closed_len (take k journal) = placed.past k (Voted slot ballot c) from here refl in absurd (omega arith))
+    ] in
     let l : length (take part.end journal) ≡ part.end = length-take-le part.end journal placed.within in
     let small : k < length (take part.end journal) = omega arith in
     let there : get_or (take part.end journal) k (Voted slot ballot c) ≡ Voted slot ballot c =
-        get_or-take part.end journal k (Voted slot ballot c) before ∙ at in
+    get_or-take part.end journal k (Voted slot ballot c) before ∙ at in
     let P : List Record → Type 0 = λ xs. HoldsVote xs slot ballot c in
     subst P (sym (part_is part.start part.end journal placed.forward))
-        (contains_from part.start k (take part.end journal) (Voted slot ballot c) on small there)
+    (contains_from part.start k (take part.end journal) (Voted slot ballot c) on small there)
 
 promise_within : (promises : ℕ) (journal : List Record) (slot ballot : ℕ) (part : Part) → IsWellFormedWhole promises journal →
     IsPlaced journal slot part → HasPromisedAbove journal slot ballot → ballot < part.reach
@@ -119,12 +128,13 @@ promise_within promises journal slot ballot part formed placed (from, higher, (k
     let fits : IsPromise promises (take k journal) from higher = fits_at promises journal k (Promised from higher) formed here in
     let same : from ≡ closed_len (take k journal) = fits.at_the_end in
     let before : k < part.end = elim (cases_lt k part.end) [
-        inl less ↦ less
-      | inr on ↦ (let b : slot < closed_len (take k journal) = placed.past k (Promised from higher) on here refl in absurd (omega arith)) ] in
+      | inl less ↦ less
+      | inr on ↦ (let b : slot < closed_len (take k journal) = placed.past k (Promised from higher) on here refl in absurd (omega arith))
+    ] in
     let l : length (take part.end journal) ≡ part.end = length-take-le part.end journal placed.within in
     let small : k < length (take part.end journal) = omega arith in
     let there : get_or (take part.end journal) k (Promised from higher) ≡ Promised from higher =
-        get_or-take part.end journal k (Promised from higher) before ∙ at in
+    get_or-take part.end journal k (Promised from higher) before ∙ at in
     let known : (seen : Seen) × Describes seen journal part.end = described promises journal part.end formed placed.within in
     let most : higher < known.0.promise + 1 = known.1.highest from higher (k, small, there) in
     let last : known.0.promise ≡ promise (take part.end journal) = known.1.last in
@@ -138,15 +148,16 @@ promise_found promises journal slot ballot part formed placed lt =
     let last : known.0.promise ≡ promise (take part.end journal) = known.1.last in
     let reach : part.reach ≡ promise (take part.end journal) = placed.reach in
     elim known.1.promised [
-      inl none ↦ absurd (omega (arith, none, lt, last, reach))
-    | inr (from, there) ↦
-        (let found : (k : ℕ) × (k < part.end) × (slice_get journal k ≡ Some (Promised from known.0.promise)) × (get_or journal k (Promised from known.0.promise) ≡ Promised from known.0.promise) =
-            place_in_front part.end journal (Promised from known.0.promise) placed.within there in
-         let fits : IsPromise promises (take found.0 journal) from known.0.promise =
-            fits_at promises journal found.0 (Promised from known.0.promise) formed found.2 in
-         let low : closed_len (take found.0 journal) ≤ slot = placed.inside found.0 found.1 in
-         let same : from ≡ closed_len (take found.0 journal) = fits.at_the_end in
-         (from, known.0.promise, contains_take part.end journal (Promised from known.0.promise) there, omega arith, omega arith)) ]
+      | inl none ↦ absurd (omega (arith, none, lt, last, reach))
+      | inr (from, there) ↦
+          (let found : (k : ℕ) × (k < part.end) × (slice_get journal k ≡ Some (Promised from known.0.promise)) × (get_or journal k (Promised from known.0.promise) ≡ Promised from known.0.promise) =
+          place_in_front part.end journal (Promised from known.0.promise) placed.within there in
+          let fits : IsPromise promises (take found.0 journal) from known.0.promise =
+          fits_at promises journal found.0 (Promised from known.0.promise) formed found.2 in
+          let low : closed_len (take found.0 journal) ≤ slot = placed.inside found.0 found.1 in
+          let same : from ≡ closed_len (take found.0 journal) = fits.at_the_end in
+          (from, known.0.promise, contains_take part.end journal (Promised from known.0.promise) there, omega arith, omega arith))
+    ]
 
 -- a part so placed shows what the journal says of the slot
 pub placed_shows : (promises : ℕ) (journal : List Record) (slot : ℕ) (part : Part) → IsWellFormedWhole promises journal →
@@ -169,7 +180,10 @@ pub record IsTracked (journal : List Record) (place : ℕ) (parts : List Part) (
 
 pub tracked_none : (journal : List Record) → IsTracked journal 0 [] 0 0
 tracked_none journal = record {
-  count = refl; forward = omega arith; below = λ k lt. absurd (omega (arith, lt)); reaches = refl;
+  count = refl;
+  forward = omega arith;
+  below = λ k lt. absurd (omega (arith, lt));
+  reaches = refl;
   shown = λ slot part at. cc;
 }
 
@@ -179,9 +193,9 @@ pub tracked_same : (journal : List Record) (place start reach next : ℕ) (parts
     IsTracked journal place parts start reach → IsTracked journal (place + 1) parts start next
 tracked_same journal place start reach next parts entry lt at still step known =
     let more : closed_len (take (place + 1) journal) ≡ closed_len (take place journal) + cond (is_closed entry) 1 0 =
-        count_more is_closed journal place entry lt at in
+    count_more is_closed journal place entry lt at in
     let none : closed_len (take (place + 1) journal) ≡ closed_len (take place journal) =
-        more ∙ ap (λ b. closed_len (take place journal) + cond b 1 0) still ∙ omega arith in
+    more ∙ ap (λ b. closed_len (take place journal) + cond b 1 0) still ∙ omega arith in
     record {
       count = known.count ∙ sym none;
       forward = omega (arith, known.forward);
@@ -205,14 +219,15 @@ closed_placed journal place start reach s c parts lt here known =
       inside = λ k less.
           (let le : closed_len (take k journal) ≤ closed_len (take place journal) = front_counts is_closed journal k place (omega arith) in omega arith);
       past = λ k entry from there still. elim (cases_lt place k) [
-          inl later ↦
+        | inl later ↦
             (let le : closed_len (take (place + 1) journal) ≤ closed_len (take k journal) = front_counts is_closed journal (place + 1) k (omega arith) in omega arith)
         | inr on ↦
             (let same : k ≡ place = omega arith in
-             let P : ℕ → Type 0 = λ m. slice_get journal m ≡ Some entry in
-             let e : entry ≡ Closed s c = same_Some entry (Closed s c) (sym (subst P same there) ∙ here) in
-             let closes : is_closed entry ≡ true = ap is_closed e in
-             cc) ];
+            let P : ℕ → Type 0 = λ m. slice_get journal m ≡ Some entry in
+            let e : entry ≡ Closed s c = same_Some entry (Closed s c) (sym (subst P same there) ∙ here) in
+            let closes : is_closed entry ≡ true = ap is_closed e in
+            cc)
+      ];
       reach = known.reaches;
     }
 
@@ -224,19 +239,21 @@ pushed_cases [] last part (suc slot) at = cc
 pushed_cases (first ∷ parts) last part zero at = inl at
 pushed_cases (first ∷ parts) last part (suc slot) at =
     elim (pushed_cases parts last part slot at) [
-      inl before ↦ inl before
-    | inr (same, is) ↦ inr (ap suc same, is) ]
+      | inl before ↦ inl before
+      | inr (same, is) ↦ inr (ap suc same, is)
+    ]
 
 pub pushed_shown : (journal : List Record) (parts : List Part) (last : Part) →
     ((slot : ℕ) (part : Part) → slice_get parts slot ≡ Some part → ShowsPart journal slot part) → ShowsPart journal (length parts) last →
     (slot : ℕ) (part : Part) → slice_get (parts ++ last ∷ []) slot ≡ Some part → ShowsPart journal slot part
 pushed_shown journal parts last shown shows slot part at =
     elim (pushed_cases parts last part slot at) [
-      inl before ↦ shown slot part before
-    | inr (same, is) ↦
-        (let P : Part → Type 0 = λ p. ShowsPart journal slot p in
-         let Q : ℕ → Type 0 = λ n. ShowsPart journal n last in
-         subst P is (subst Q (sym same) shows)) ]
+      | inl before ↦ shown slot part before
+      | inr (same, is) ↦
+          (let P : Part → Type 0 = λ p. ShowsPart journal slot p in
+          let Q : ℕ → Type 0 = λ n. ShowsPart journal n last in
+          subst P is (subst Q (sym same) shows))
+    ]
 
 pub tracked_closed : (promises : ℕ) (journal : List Record) (place start reach s : ℕ) (c : Command) (parts : List Part) →
     IsWellFormedWhole promises journal → place < length journal →
@@ -284,7 +301,7 @@ beyond_shows promises journal place start reach slot parts formed end known late
     let part : Part = record { start = length journal; end = length journal; reach = reach } in
     let n : length parts ≡ closed_len (take place journal) = known.count in
     let front : (k : ℕ) → k < length journal → closed_len (take k journal) ≤ closed_len (take place journal) =
-        λ k less. front_counts is_closed journal k place (omega arith) in
+    λ k less. front_counts is_closed journal k place (omega arith) in
     let placed : IsPlaced journal slot part = record {
       forward = omega arith;
       within = omega arith;
@@ -327,10 +344,10 @@ track_made promises journal place start reach parts track formed end known items
     record {
       each = λ slot part at.
           (let P : List Part → Type 0 = λ xs. slice_get xs slot ≡ Some part in
-           pushed_shown journal parts last known.shown (open_shows promises journal place start reach parts formed end known) slot part
-               (subst P items at));
+          pushed_shown journal parts last known.shown (open_shows promises journal place start reach parts formed end known) slot part
+          (subst P items at));
       past = λ slot le.
           (let later : length parts < slot = omega arith in
-           let P : Part → Type 0 = λ p. ShowsPart journal slot p in
-           subst P (sym beyond) (beyond_shows promises journal place start reach slot parts formed end known later));
+          let P : Part → Type 0 = λ p. ShowsPart journal slot p in
+          subst P (sym beyond) (beyond_shows promises journal place start reach slot parts formed end known later));
     }

@@ -1,9 +1,9 @@
 -- Facts of votes, of all entries and of some.
-use Rattle.std.proofs.Common.{◌≡◌, ℕ, ◌+◌, ◌-◌, ◌<◌, ◌≤◌, ◌⊎◌, ◌↔◌, inl, inr, Bool, true, false, IsTrue, List, [], ◌∷◌, length, take, drop, get_or, subst, sym, ◌∙◌, ap, arith, refl, Some}
+use Rattle.std.proofs.Common.{◌≡◌, ℕ, ◌<◌, ◌≤◌, List, length, take, get_or, sym, ◌∙◌, arith, refl, Some}
 use Rattle.std.specs.List.{Contains, All, Any, slice_get}
 use Rattle.std.proofs.lemmas.List.{get_or-take, length-take-le}
 use Rattle.std.proofs.lemmas.List.Elements.{All-contains, Contains-get_or}
-use Rattle.std.proofs.lemmas.Option.{slice_get-get_or, slice_get_within, get_or_from_slice_get, slice_get_read}
+use Rattle.std.proofs.lemmas.Option.{slice_get_read}
 use Rattle.arc_command.specs.declared.command.Command.{Command}
 use Rattle.arc_command.specs.declared.record.Record.{Record}
 use Rattle.arc_command.specs.declared.record.Record.TheVariants.{Opened, Promised, Voted, Closed}

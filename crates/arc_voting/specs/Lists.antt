@@ -1,5 +1,5 @@
 -- The lists of commands that nodes have applied.
-use Rattle.std.specs.Prelude.{ℕ, Option, Some, None, List, if◌then◌else◌, nat_lt, length}
+use Rattle.std.specs.Prelude.{Option, Some, None, List, if◌then◌else◌, nat_lt, length}
 use Rattle.std.specs.List.{filter_map}
 use Rattle.arc_command.specs.declared.command.Command.{Command}
 use Rattle.arc_command.specs.declared.record.Record.{Record}

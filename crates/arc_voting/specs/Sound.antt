@@ -1,5 +1,5 @@
 -- Sound journals: six rules, each a fact of one entry, and the first breach of them.
-use Rattle.std.specs.Prelude.{ℕ, ◌≡◌, ◌<◌, ◌%◌, ◌⊎◌, ⊤, Option, Some, None, MatchOption, IfSome, List, take}
+use Rattle.std.specs.Prelude.{ℕ, ◌≡◌, ◌<◌, ◌%◌, ◌⊎◌, ⊤, MatchOption, IfSome, List, take}
 use Rattle.std.specs.List.{slice_get}
 use Rattle.arc_command.specs.declared.command.Command.{Command}
 use Rattle.arc_command.specs.declared.record.Record.{Record}

@@ -1,5 +1,5 @@
 -- The table of messages and answers: what a node that keeps these entries appends and answers.
-use Rattle.std.specs.Prelude.{ℕ, ◌≡◌, ◌+◌, ◌↔◌, Bool, IsTrue, if◌then◌else◌, nat_lt, nat_le, Option, Some, None, List, Contains}
+use Rattle.std.specs.Prelude.{ℕ, ◌≡◌, ◌+◌, ◌↔◌, Bool, IsTrue, if◌then◌else◌, nat_lt, nat_le, Option, Some, None, List}
 use Rattle.std.specs.List.{slice_get}
 use Rattle.arc_voting.specs.Votes.{closed_len, promise, top_vote}
 use Rattle.arc_command.specs.declared.command.Command.{Command}
@@ -27,9 +27,9 @@ appends entry reply = record { append = Some entry; reply = reply }
 abbrev pub at_the_end : List Record → ℕ → (Command → Turn) → Turn → Turn
 at_the_end journal slot below here = at_slot (slice_get (applied journal) slot)
   where
-  at_slot : Option Command → Turn
-  at_slot (Some c) = below c
-  at_slot None = if nat_lt (closed_len journal) slot then answers_only (Behind (closed_len journal)) else here
+    at_slot : Option Command → Turn
+    at_slot (Some c) = below c
+    at_slot None = if nat_lt (closed_len journal) slot then answers_only (Behind (closed_len journal)) else here
 
 -- A vote at the end of the list: refused below the promise, and appended unless it stands already.
 abbrev pub vote_turn : Bool → List Record → ℕ → ℕ → Command → Turn
@@ -54,7 +54,7 @@ turn_of stands journal (Accept slot ballot c) =
     at_the_end journal slot (λ d. answers_only (Known slot d)) (vote_turn stands journal slot ballot c)
 turn_of stands journal (Learn slot c) =
     at_the_end journal slot (λ d. answers_only (Learned (closed_len journal)))
-        (appends (Closed slot c) (Learned (closed_len journal + 1)))
+    (appends (Closed slot c) (Learned (closed_len journal + 1)))
 
 -- The vote that a message asks for stands in the journal already.
 abbrev pub StandsAlready : List Record → Message → Type 0

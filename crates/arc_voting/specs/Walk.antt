@@ -1,5 +1,5 @@
 -- What a walk along a journal knows.
-use Rattle.std.specs.Prelude.{ℕ, ◌≡◌, ◌<◌, ◌≤◌, ◌+◌, ◌-◌, ◌^◌, ◌⊎◌, Option, Some, MatchOption, List, Contains, length, take, drop, IfSome}
+use Rattle.std.specs.Prelude.{ℕ, ◌≡◌, ◌<◌, ◌≤◌, ◌+◌, ◌^◌, ◌⊎◌, Option, Some, MatchOption, List, Contains, length, take, IfSome}
 use Rattle.std.specs.List.{slice_get}
 use Rattle.arc_command.specs.declared.command.Command.{Command}
 use Rattle.arc_command.specs.declared.record.Record.{Record}
@@ -43,4 +43,4 @@ IsFirstIn P found = MatchOption found ((place : ℕ) → P place) (λ first. (¬
 abbrev pub IsFirstUnder : Journals → Rule → Option Breach → Type 0
 IsFirstUnder js rule found = MatchOption found ((node place : ℕ) → node < 5 → Keeps js rule node place)
     (λ breach. (breach.rule ≡ number_of rule) × (breach.node < 5) × (¬ Keeps js rule breach.node breach.place)
-        × ((n p : ℕ) → StandsBefore n p breach.node breach.place → Keeps js rule n p))
+    × ((n p : ℕ) → StandsBefore n p breach.node breach.place → Keeps js rule n p))

@@ -48,7 +48,13 @@ fn vote_keeps(
 }
 
 /// Whether the entry at this node and place keeps the rule.
-fn keeps(journals: &Five<Vec<Record>>, tracks: &Five<Track>, rule: Rule, node: u8, place: usize) -> bool
+fn keeps(
+    journals: &Five<Vec<Record>>,
+    tracks: &Five<Track>,
+    rule: Rule,
+    node: u8,
+    place: usize,
+) -> bool
     requires of_five { node < 5 }
     requires within { place < length (journals_of journals.now node) }
     requires other { rule ≢ Rule.V1 }
@@ -70,7 +76,12 @@ fn keeps(journals: &Five<Vec<Record>>, tracks: &Five<Track>, rule: Rule, node: u
 }
 
 /// The first place of a node's journal that breaks a rule other than the first one.
-fn first_breaking(journals: &Five<Vec<Record>>, tracks: &Five<Track>, rule: Rule, node: u8) -> Option<usize>
+fn first_breaking(
+    journals: &Five<Vec<Record>>,
+    tracks: &Five<Track>,
+    rule: Rule,
+    node: u8,
+) -> Option<usize>
     requires of_five { node < 5 }
     requires other { rule ≢ Rule.V1 }
     requires tracked { AreTracksOf tracks.now (journals_of journals.now) }

@@ -25,7 +25,9 @@ fn is_vote(entry: &Record, slot: u32, ballot: u64, command: &Command) -> bool
 pub fn holds_vote(entries: &[Record], slot: u32, ballot: u64, command: &Command) -> bool
     ensures { IsTrue result ↔ HoldsVote entries.now slot ballot command.now }
 {
-    entries.iter().any(|entry| is_vote(entry, slot, ballot, command))
+    entries
+        .iter()
+        .any(|entry| is_vote(entry, slot, ballot, command))
 }
 
 /// Whether some vote at this slot and ballot stands among the entries.
@@ -91,7 +93,9 @@ fn agrees(entry: &Record, slot: u32, ballot: u64, command: &Command) -> bool
 pub fn is_one_command(entries: &[Record], slot: u32, ballot: u64, command: &Command) -> bool
     ensures { IsTrue result ↔ IsOneCommand entries.now slot ballot command.now }
 {
-    entries.iter().all(|entry| agrees(entry, slot, ballot, command))
+    entries
+        .iter()
+        .all(|entry| agrees(entry, slot, ballot, command))
 }
 
 /// Whether this entry is no vote that gives the command's id to another one.

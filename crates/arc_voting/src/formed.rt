@@ -1,5 +1,5 @@
 //! Well-formed journals.
-ghost use Rattle.std.specs.Prelude.{◌≡◌, ◌≢◌, ◌↔◌, ◌<◌, ◌≤◌, ◌+◌, ◌*◌, ◌^◌, ℕ, IsTrue, List, [], length, take};
+ghost use Rattle.std.specs.Prelude.{◌≡◌, ◌≢◌, ◌↔◌, ◌<◌, ◌≤◌, ◌+◌, ◌*◌, ◌^◌, ℕ, IsTrue, [], length, take};
 ghost use Rattle.std.specs.List.{slice_get};
 ghost use Rattle.arc_voting.specs.Journals.{journals_of, promised_count, promises_of};
 ghost use Rattle.arc_voting.specs.Formed.{IsBallot, IsPromise, IsVote};
@@ -46,7 +46,14 @@ impl Seen {
     }
 
     /// Whether a promise fits behind the entries before this place.
-    fn admits_promise(&self, journal: &[Record], place: usize, promises: u64, from: u32, ballot: u64) -> bool
+    fn admits_promise(
+        &self,
+        journal: &[Record],
+        place: usize,
+        promises: u64,
+        from: u32,
+        ballot: u64,
+    ) -> bool
         requires within { place < length journal.now }
         requires seen { Describes self.now journal.now place }
         requires room { promises < 2 ^ 40 }
@@ -65,7 +72,15 @@ impl Seen {
     }
 
     /// Whether a vote fits behind the entries before this place.
-    fn admits_vote(&self, journal: &[Record], place: usize, promises: u64, slot: u32, ballot: u64, command: &Command) -> bool
+    fn admits_vote(
+        &self,
+        journal: &[Record],
+        place: usize,
+        promises: u64,
+        slot: u32,
+        ballot: u64,
+        command: &Command,
+    ) -> bool
         requires within { place < length journal.now }
         requires seen { Describes self.now journal.now place }
         requires room { promises < 2 ^ 40 }
@@ -98,7 +113,7 @@ impl Seen {
         slot as usize == self.closed
     }
 
-    /// Whether the journal's next entry, at this place, fits those before it, where five journals have so many promises.
+    /// Whether the journal's entry at this place fits those before it, where five journals have so many promises.
     fn admits(&self, journal: &[Record], place: usize, promises: u64) -> bool
         requires within { place < length journal.now }
         requires seen { Describes self.now journal.now place }
@@ -143,7 +158,10 @@ fn promises_in(journal: &[Record]) -> usize
     ensures counted { result ≡ promised_count journal.now }
     ensures few { result ≤ length journal.now }
 {
-    journal.iter().filter(|entry| matches!(entry, Record::Promised { .. })).count()
+    journal
+        .iter()
+        .filter(|entry| matches!(entry, Record::Promised { .. }))
+        .count()
 }
 
 /// How many promises the five journals hold.

@@ -1,4 +1,4 @@
-//! What the identifiers of commands promise.
+//! What the identifiers of commands promise. These bodies walk whole journals.
 ghost use Rattle.std.specs.Prelude.{◌≡◌, ◌↔◌, ◌<◌, ◌≤◌, ℕ, IsTrue, length};
 ghost use Rattle.arc_command.specs.declared.command.Command.{Command};
 ghost use Rattle.arc_voting.specs.Journals.{journals_of};
@@ -38,7 +38,12 @@ pub fn starts_at_its_node(journals: &Five<Vec<Record>>, command: &Command) -> bo
 }
 
 /// Whether no vote before this place has the command's id and is for another one.
-pub fn has_no_earlier_double(journals: &Five<Vec<Record>>, node: u8, place: usize, command: &Command) -> bool
+pub fn has_no_earlier_double(
+    journals: &Five<Vec<Record>>,
+    node: u8,
+    place: usize,
+    command: &Command,
+) -> bool
     requires of_five { node < 5 }
     requires within { place ≤ length (journals_of journals.now node) }
     ensures { IsTrue result ↔ HasNoEarlierDouble (journals_of journals.now) node place command.now }
@@ -53,7 +58,13 @@ pub fn has_no_earlier_double(journals: &Five<Vec<Record>>, node: u8, place: usiz
 
 /// Whether this entry isn't a vote, in a slot below this one and with the command's id, that has three of its kind.
 #[tactic(auto, unfolding(crate::specs::Parts::IsNoneChosenBelow))]
-fn is_no_chosen_below(journals: &Five<Vec<Record>>, tracks: &Five<Track>, entry: &Record, slot: u32, command: &Command) -> bool
+fn is_no_chosen_below(
+    journals: &Five<Vec<Record>>,
+    tracks: &Five<Track>,
+    entry: &Record,
+    slot: u32,
+    command: &Command,
+) -> bool
     requires { AreTracksOf tracks.now (journals_of journals.now) }
     ensures { IsTrue result ↔ IsNoneChosenBelow (journals_of journals.now) slot command.now entry.now }
 {
@@ -73,17 +84,30 @@ fn is_no_chosen_below(journals: &Five<Vec<Record>>, tracks: &Five<Track>, entry:
 }
 
 /// Whether no vote of this node, in a slot below this one and with the command's id, has three of its kind.
-fn has_no_chosen_below(journals: &Five<Vec<Record>>, tracks: &Five<Track>, node: u8, slot: u32, command: &Command) -> bool
+fn has_no_chosen_below(
+    journals: &Five<Vec<Record>>,
+    tracks: &Five<Track>,
+    node: u8,
+    slot: u32,
+    command: &Command,
+) -> bool
     requires of_five { node < 5 }
     requires tracked { AreTracksOf tracks.now (journals_of journals.now) }
     ensures { IsTrue result ↔
         HasNoChosenBelow (journals_of journals.now) (journals_of journals.now node) slot command.now }
 {
-    journals.get(node).iter().all(|entry| is_no_chosen_below(journals, tracks, entry, slot, command))
+    journals.get(node).iter().all(|entry| is_no_chosen_below(
+        journals, tracks, entry, slot, command,
+    ))
 }
 
 /// Whether no command with this command's id is chosen in a slot below this one.
-pub fn is_not_chosen_below(journals: &Five<Vec<Record>>, tracks: &Five<Track>, slot: u32, command: &Command) -> bool
+pub fn is_not_chosen_below(
+    journals: &Five<Vec<Record>>,
+    tracks: &Five<Track>,
+    slot: u32,
+    command: &Command,
+) -> bool
     requires { AreTracksOf tracks.now (journals_of journals.now) }
     ensures { IsTrue result ↔ IsNotChosenBelow (journals_of journals.now) slot command.now }
 {

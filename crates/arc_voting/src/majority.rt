@@ -49,7 +49,12 @@ pub fn some_of_five(holds: &Five<bool>) -> bool
 }
 
 /// Whether at least three journals hold this vote.
-pub fn is_voted_by_three(journals: &Five<Vec<Record>>, slot: &Slot, ballot: u64, command: &Command) -> bool
+pub fn is_voted_by_three(
+    journals: &Five<Vec<Record>>,
+    slot: &Slot,
+    ballot: u64,
+    command: &Command,
+) -> bool
     requires { Shows (journals_of journals.now) slot.now }
     ensures { IsTrue result ↔ IsVotedByThree (journals_of journals.now) slot.now.number ballot command.now }
 {
@@ -79,7 +84,12 @@ pub fn is_settled(journals: &Five<Vec<Record>>, slot: &Slot, ballot: u64, comman
 }
 
 /// Whether this entry is a vote at the slot, of a ballot in which three vote for the command.
-fn is_chosen_with(journals: &Five<Vec<Record>>, slot: &Slot, entry: &Record, command: &Command) -> bool
+fn is_chosen_with(
+    journals: &Five<Vec<Record>>,
+    slot: &Slot,
+    entry: &Record,
+    command: &Command,
+) -> bool
     requires { Shows (journals_of journals.now) slot.now }
     ensures { IsTrue result ↔ IsVoteWith entry.now (λ its_slot ballot d. (its_slot ≡ slot.now.number)
         × IsVotedByThree (journals_of journals.now) slot.now.number ballot command.now) }
@@ -106,7 +116,9 @@ fn is_chosen_by(journals: &Five<Vec<Record>>, slot: &Slot, node: u8, command: &C
     ensures { IsTrue result ↔ ChoosesAmong (journals_of journals.now)
         (part_of (journals_of journals.now node) (at slot.now.parts node)) slot.now.number command.now }
 {
-    entries_of(journals, slot, node).iter().any(|entry| is_chosen_with(journals, slot, entry, command))
+    entries_of(journals, slot, node)
+        .iter()
+        .any(|entry| is_chosen_with(journals, slot, entry, command))
 }
 
 /// Whether a command is chosen at the slot.

@@ -16,7 +16,13 @@ use arc_command::{Command, Record};
 
 /// Whether this entry is no vote at the slot, below the ballot, that isn't settled for the command.
 #[tactic(auto, unfolding(crate::specs::Parts::IsSettledBelow))]
-fn is_settled_entry(journals: &Five<Vec<Record>>, slot: &Slot, entry: &Record, ballot: u64, command: &Command) -> bool
+fn is_settled_entry(
+    journals: &Five<Vec<Record>>,
+    slot: &Slot,
+    entry: &Record,
+    ballot: u64,
+    command: &Command,
+) -> bool
     requires { Shows (journals_of journals.now) slot.now }
     ensures { IsTrue result ↔
         IsSettledBelow (journals_of journals.now) slot.now.number ballot command.now entry.now }
@@ -52,13 +58,25 @@ fn are_settled(
 }
 
 /// Whether each ballot at which this node votes, below the given one, is settled for the command.
-fn its_votes_are_settled(journals: &Five<Vec<Record>>, slot: &Slot, node: u8, ballot: u64, command: &Command) -> bool
+fn its_votes_are_settled(
+    journals: &Five<Vec<Record>>,
+    slot: &Slot,
+    node: u8,
+    ballot: u64,
+    command: &Command,
+) -> bool
     requires of_five { node < 5 }
     requires shown { Shows (journals_of journals.now) slot.now }
     ensures { IsTrue result ↔ VotedAreSettled (journals_of journals.now)
         (part_of (journals_of journals.now node) (at slot.now.parts node)) slot.now.number ballot command.now }
 {
-    are_settled(journals, slot, entries_of(journals, slot, node), ballot, command)
+    are_settled(
+        journals,
+        slot,
+        entries_of(journals, slot, node),
+        ballot,
+        command,
+    )
 }
 
 /// Whether some node votes at this ballot.
@@ -91,7 +109,12 @@ fn free_below(journals: &Five<Vec<Record>>, slot: &Slot, ballot: u64) -> u64
 }
 
 /// Whether each ballot at which some node votes, below the given one, is settled for the command.
-fn voted_are_settled(journals: &Five<Vec<Record>>, slot: &Slot, ballot: u64, command: &Command) -> bool
+fn voted_are_settled(
+    journals: &Five<Vec<Record>>,
+    slot: &Slot,
+    ballot: u64,
+    command: &Command,
+) -> bool
     requires { Shows (journals_of journals.now) slot.now }
     ensures { IsTrue result ↔ ((lower : ℕ) → 1 ≤ lower → lower < ballot →
         SomeVotesAt (journals_of journals.now) slot.now.number lower →
@@ -107,7 +130,12 @@ fn voted_are_settled(journals: &Five<Vec<Record>>, slot: &Slot, ballot: u64, com
 }
 
 /// Whether every ballot below this one is settled at the slot for the command.
-pub fn lower_are_settled(journals: &Five<Vec<Record>>, slot: &Slot, ballot: u64, command: &Command) -> bool
+pub fn lower_are_settled(
+    journals: &Five<Vec<Record>>,
+    slot: &Slot,
+    ballot: u64,
+    command: &Command,
+) -> bool
     requires { Shows (journals_of journals.now) slot.now }
     ensures { IsTrue result ↔ LowerAreSettled (journals_of journals.now) slot.now.number ballot command.now }
 {

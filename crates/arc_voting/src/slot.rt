@@ -39,12 +39,23 @@ pub fn entries_of<'a>(journals: &'a Five<Vec<Record>>, slot: &Slot, node: u8) ->
 }
 
 /// Whether a node's journal holds this vote.
-pub fn node_voted(journals: &Five<Vec<Record>>, slot: &Slot, node: u8, ballot: u64, command: &Command) -> bool
+pub fn node_voted(
+    journals: &Five<Vec<Record>>,
+    slot: &Slot,
+    node: u8,
+    ballot: u64,
+    command: &Command,
+) -> bool
     requires of_five { node < 5 }
     requires shown { Shows (journals_of journals.now) slot.now }
     ensures { IsTrue result ↔ HoldsVote (journals_of journals.now node) slot.now.number ballot command.now }
 {
-    holds_vote(entries_of(journals, slot, node), slot.number, ballot, command)
+    holds_vote(
+        entries_of(journals, slot, node),
+        slot.number,
+        ballot,
+        command,
+    )
 }
 
 /// Whether a node's journal holds some vote at this ballot.
@@ -57,7 +68,13 @@ pub fn node_voted_at(journals: &Five<Vec<Record>>, slot: &Slot, node: u8, ballot
 }
 
 /// Whether a node's journal settles this ballot for the command: it voted so, or didn't vote there and never will.
-pub fn node_settles(journals: &Five<Vec<Record>>, slot: &Slot, node: u8, ballot: u64, command: &Command) -> bool
+pub fn node_settles(
+    journals: &Five<Vec<Record>>,
+    slot: &Slot,
+    node: u8,
+    ballot: u64,
+    command: &Command,
+) -> bool
     requires of_five { node < 5 }
     requires shown { Shows (journals_of journals.now) slot.now }
     ensures { IsTrue result ↔ Settles (journals_of journals.now node) slot.now.number ballot command.now }

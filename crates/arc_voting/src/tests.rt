@@ -59,9 +59,13 @@ struct Row {
 }
 
 const C: Name = Name(0, 1, 0, 0);
+
 const D: Name = Name(1, 1, 0, 0);
+
 const STARTED: &[Entry] = &[Open(1)];
+
 const PROMISED: &[Entry] = &[Open(1), Promise(0, 5)];
+
 const VOTED: &[Entry] = &[Open(1), Promise(0, 5), Vote(0, 5, C)];
 
 /// No journal of a test is longer.
@@ -104,11 +108,23 @@ fn breach_of(alloc: Global, rows: &[&[Entry]; 5]) -> Result<Option<(u8, u8, u32)
 fn worked_journals_are_audited(rt: HostRuntime) -> Result<(), Fail> {
     let rows = [
         // one promise is no quorum
-        Row { journals: [VOTED, STARTED, STARTED, STARTED, STARTED], breach: Some((3, 0, 2)) },
-        Row { journals: [VOTED, PROMISED, PROMISED, STARTED, STARTED], breach: None },
+        Row {
+            journals: [VOTED, STARTED, STARTED, STARTED, STARTED],
+            breach: Some((3, 0, 2)),
+        },
+        Row {
+            journals: [VOTED, PROMISED, PROMISED, STARTED, STARTED],
+            breach: None,
+        },
         // node 0 owns ballot 5, and voted for another command in it
         Row {
-            journals: [VOTED, &[Open(1), Promise(0, 5), Vote(0, 5, D)], PROMISED, STARTED, STARTED],
+            journals: [
+                VOTED,
+                &[Open(1), Promise(0, 5), Vote(0, 5, D)],
+                PROMISED,
+                STARTED,
+                STARTED,
+            ],
             breach: Some((2, 1, 2)),
         },
     ];
@@ -122,56 +138,199 @@ fn worked_journals_are_audited(rt: HostRuntime) -> Result<(), Fail> {
 fn each_rule_is_broken_alone(rt: HostRuntime) -> Result<(), Fail> {
     let rows = [
         // V1: an empty journal; no start at first; a start skipped; a slot skipped
-        Row { journals: [STARTED, STARTED, STARTED, &[], STARTED], breach: Some((1, 3, 0)) },
-        Row { journals: [STARTED, STARTED, &[Promise(0, 1)], STARTED, STARTED], breach: Some((1, 2, 0)) },
-        Row { journals: [STARTED, &[Open(1), Open(3)], STARTED, STARTED, STARTED], breach: Some((1, 1, 1)) },
-        Row { journals: [STARTED, STARTED, STARTED, STARTED, &[Open(1), Close(1, C)]], breach: Some((1, 4, 1)) },
+        Row {
+            journals: [STARTED, STARTED, STARTED, &[], STARTED],
+            breach: Some((1, 3, 0)),
+        },
+        Row {
+            journals: [STARTED, STARTED, &[Promise(0, 1)], STARTED, STARTED],
+            breach: Some((1, 2, 0)),
+        },
+        Row {
+            journals: [STARTED, &[Open(1), Open(3)], STARTED, STARTED, STARTED],
+            breach: Some((1, 1, 1)),
+        },
+        Row {
+            journals: [STARTED, STARTED, STARTED, STARTED, &[Open(1), Close(1, C)]],
+            breach: Some((1, 4, 1)),
+        },
         // V1: a promise beyond the end; in ballot 0; one above the bound, which is 5 for one promise; not a higher one
-        Row { journals: [&[Open(1), Promise(1, 5)], STARTED, STARTED, STARTED, STARTED], breach: Some((1, 0, 1)) },
-        Row { journals: [&[Open(1), Promise(0, 0)], STARTED, STARTED, STARTED, STARTED], breach: Some((1, 0, 1)) },
-        Row { journals: [&[Open(1), Promise(0, 6)], STARTED, STARTED, STARTED, STARTED], breach: Some((1, 0, 1)) },
-        Row { journals: [PROMISED, STARTED, STARTED, STARTED, STARTED], breach: None },
-        Row { journals: [&[Open(1), Promise(0, 5), Promise(0, 5)], STARTED, STARTED, STARTED, STARTED], breach: Some((1, 0, 2)) },
+        Row {
+            journals: [
+                &[Open(1), Promise(1, 5)],
+                STARTED,
+                STARTED,
+                STARTED,
+                STARTED,
+            ],
+            breach: Some((1, 0, 1)),
+        },
+        Row {
+            journals: [
+                &[Open(1), Promise(0, 0)],
+                STARTED,
+                STARTED,
+                STARTED,
+                STARTED,
+            ],
+            breach: Some((1, 0, 1)),
+        },
+        Row {
+            journals: [
+                &[Open(1), Promise(0, 6)],
+                STARTED,
+                STARTED,
+                STARTED,
+                STARTED,
+            ],
+            breach: Some((1, 0, 1)),
+        },
+        Row {
+            journals: [PROMISED, STARTED, STARTED, STARTED, STARTED],
+            breach: None,
+        },
+        Row {
+            journals: [
+                &[Open(1), Promise(0, 5), Promise(0, 5)],
+                STARTED,
+                STARTED,
+                STARTED,
+                STARTED,
+            ],
+            breach: Some((1, 0, 2)),
+        },
         // V1: a vote beyond the end; below the promise
-        Row { journals: [&[Open(1), Promise(0, 5), Vote(1, 5, C)], PROMISED, PROMISED, STARTED, STARTED], breach: Some((1, 0, 2)) },
-        Row { journals: [&[Open(1), Promise(0, 5), Vote(0, 4, C)], PROMISED, PROMISED, STARTED, STARTED], breach: Some((1, 0, 2)) },
+        Row {
+            journals: [
+                &[Open(1), Promise(0, 5), Vote(1, 5, C)],
+                PROMISED,
+                PROMISED,
+                STARTED,
+                STARTED,
+            ],
+            breach: Some((1, 0, 2)),
+        },
+        Row {
+            journals: [
+                &[Open(1), Promise(0, 5), Vote(0, 4, C)],
+                PROMISED,
+                PROMISED,
+                STARTED,
+                STARTED,
+            ],
+            breach: Some((1, 0, 2)),
+        },
         // V2: the ballot's owner, node 0, has no vote
-        Row { journals: [PROMISED, &[Open(1), Promise(0, 5), Vote(0, 5, D)], PROMISED, STARTED, STARTED], breach: Some((2, 1, 2)) },
+        Row {
+            journals: [
+                PROMISED,
+                &[Open(1), Promise(0, 5), Vote(0, 5, D)],
+                PROMISED,
+                STARTED,
+                STARTED,
+            ],
+            breach: Some((2, 1, 2)),
+        },
         // V3: nodes 1 and 2 promised ballot 4, which isn't above 4
         Row {
-            journals: [VOTED, &[Open(1), Promise(0, 4)], &[Open(1), Promise(0, 4)], STARTED, STARTED],
+            journals: [
+                VOTED,
+                &[Open(1), Promise(0, 4)],
+                &[Open(1), Promise(0, 4)],
+                STARTED,
+                STARTED,
+            ],
             breach: Some((3, 0, 2)),
         },
         // V4: two votes are no majority; three are
         Row {
-            journals: [&[Open(1), Promise(0, 5), Vote(0, 5, C), Close(0, C)], VOTED, PROMISED, STARTED, STARTED],
+            journals: [
+                &[Open(1), Promise(0, 5), Vote(0, 5, C), Close(0, C)],
+                VOTED,
+                PROMISED,
+                STARTED,
+                STARTED,
+            ],
             breach: Some((4, 0, 3)),
         },
         Row {
-            journals: [&[Open(1), Promise(0, 5), Vote(0, 5, C), Close(0, C)], VOTED, VOTED, STARTED, STARTED],
+            journals: [
+                &[Open(1), Promise(0, 5), Vote(0, 5, C), Close(0, C)],
+                VOTED,
+                VOTED,
+                STARTED,
+                STARTED,
+            ],
             breach: None,
         },
         // V5: the command's node never voted for it; did so before that start; there is no such node
-        Row { journals: [&[Open(1), Promise(0, 5), Vote(0, 5, D)], PROMISED, PROMISED, STARTED, STARTED], breach: Some((5, 0, 2)) },
         Row {
-            journals: [&[Open(1), Promise(0, 5), Vote(0, 5, Name(0, 2, 0, 0)), Open(2)], PROMISED, PROMISED, STARTED, STARTED],
+            journals: [
+                &[Open(1), Promise(0, 5), Vote(0, 5, D)],
+                PROMISED,
+                PROMISED,
+                STARTED,
+                STARTED,
+            ],
             breach: Some((5, 0, 2)),
         },
         Row {
-            journals: [&[Open(1), Promise(0, 5), Vote(0, 5, Name(5, 1, 0, 0))], PROMISED, PROMISED, STARTED, STARTED],
+            journals: [
+                &[
+                    Open(1),
+                    Promise(0, 5),
+                    Vote(0, 5, Name(0, 2, 0, 0)),
+                    Open(2),
+                ],
+                PROMISED,
+                PROMISED,
+                STARTED,
+                STARTED,
+            ],
+            breach: Some((5, 0, 2)),
+        },
+        Row {
+            journals: [
+                &[Open(1), Promise(0, 5), Vote(0, 5, Name(5, 1, 0, 0))],
+                PROMISED,
+                PROMISED,
+                STARTED,
+                STARTED,
+            ],
             breach: Some((5, 0, 2)),
         },
         // V5: one id for two commands
         Row {
             journals: [
-                &[Open(1), Promise(0, 5), Vote(0, 5, C), Promise(0, 10), Vote(0, 10, Name(0, 1, 0, 9))],
-                &[Open(1), Promise(0, 10)], &[Open(1), Promise(0, 10)], &[Open(1), Promise(0, 10)], STARTED,
+                &[
+                    Open(1),
+                    Promise(0, 5),
+                    Vote(0, 5, C),
+                    Promise(0, 10),
+                    Vote(0, 10, Name(0, 1, 0, 9)),
+                ],
+                &[Open(1), Promise(0, 10)],
+                &[Open(1), Promise(0, 10)],
+                &[Open(1), Promise(0, 10)],
+                STARTED,
             ],
             breach: Some((5, 0, 4)),
         },
         // V6: chosen at slot 0, and voted for again at slot 1
         Row {
-            journals: [&[Open(1), Promise(0, 5), Vote(0, 5, C), Close(0, C), Vote(1, 5, C)], VOTED, VOTED, STARTED, STARTED],
+            journals: [
+                &[
+                    Open(1),
+                    Promise(0, 5),
+                    Vote(0, 5, C),
+                    Close(0, C),
+                    Vote(1, 5, C),
+                ],
+                VOTED,
+                VOTED,
+                STARTED,
+                STARTED,
+            ],
             breach: Some((6, 0, 4)),
         },
     ];
@@ -183,7 +342,13 @@ fn each_rule_is_broken_alone(rt: HostRuntime) -> Result<(), Fail> {
 
 #[test]
 fn an_old_ballot_is_not_used_again(rt: HostRuntime) -> Result<(), Fail> {
-    let again: &[Entry] = &[Open(1), Promise(0, 5), Vote(0, 5, C), Open(2), Vote(0, 5, Name(0, 2, 0, 0))];
+    let again: &[Entry] = &[
+        Open(1),
+        Promise(0, 5),
+        Vote(0, 5, C),
+        Open(2),
+        Vote(0, 5, Name(0, 2, 0, 0)),
+    ];
     let found = breach_of(rt.alloc(), &[again, PROMISED, PROMISED, STARTED, STARTED])?;
     assert_eq!(rt; found, Some((1, 0, 4)));
     Ok(())
@@ -209,7 +374,10 @@ fn a_minority_decides_nothing(rt: HostRuntime) -> Result<(), Fail> {
 
 #[test]
 fn a_list_is_applied_in_order(rt: HostRuntime) -> Result<(), Fail> {
-    let entries = journal(rt.alloc(), &[Open(1), Close(0, D), Promise(1, 5), Close(1, C)])?;
+    let entries = journal(
+        rt.alloc(),
+        &[Open(1), Close(0, D), Promise(1, 5), Close(1, C)],
+    )?;
     let tokens = [Some(1), Some(0), None];
     for slot in 0..3u32 {
         let node = applied_at(entries.as_slice(), slot).map(|command| command.id.node);

@@ -68,7 +68,11 @@ impl Track {
 }
 
 /// The parts of five well-formed journals.
-pub fn tracks_of(alloc: Global, journals: &Five<Vec<Record>>, promises: u64) -> Result<Five<Track>, AllocError>
+pub fn tracks_of(
+    alloc: Global,
+    journals: &Five<Vec<Record>>,
+    promises: u64,
+) -> Result<Five<Track>, AllocError>
     requires { AreWellFormed promises (journals_of journals.now) }
     ensures { IfOk result (λ tracks. AreTracksOf tracks (journals_of journals.now)) }
 {

@@ -1,5 +1,5 @@
 -- So many commands were applied so far, and the slot isn't below that.
-use Rattle.std.proofs.Common.{◌≡◌, ℕ, ◌≤◌, List, take, length}
+use Rattle.std.proofs.Common.{◌≡◌, ◌≤◌, take, length}
 use Rattle.arc_voting.specs.Lists.{applied}
 use Rattle.arc_voting.proofs.applied.applied_at.Given as goal
 

@@ -1,7 +1,7 @@
 -- Each rule's first breach is the first of all, where the rules before it are kept.
-use Rattle.std.proofs.Common.{◌≡◌, ◌<◌, ℕ, Option, Some, None, subst}
+use Rattle.std.proofs.Common.{Option, subst}
 use Rattle.arc_voting.specs.declared.breach.Breach.{Breach}
-use Rattle.arc_voting.specs.declared.rule.Rule.TheVariants.{V1, V2, V3, V4, V5, V6}
+use Rattle.arc_voting.specs.declared.rule.Rule.TheVariants.{V2, V3, V4, V5}
 use Rattle.arc_voting.specs.Journals.{Journals, journals_of}
 use Rattle.arc_voting.specs.Sound.{IsKept}
 use Rattle.arc_voting.specs.Walk.{IsFirstUnder}
@@ -13,7 +13,7 @@ returns-in-Some c =
     let js : Journals = journals_of c.args.journals.now in
     let Q : Option Breach → Type 0 = λ found. IsFirstUnder js V2 found in
     first_of_all js V2 c.in-Some.breach (subst Q c.in-Some.is c.first_breach.ensures)
-        (λ former n p lt. below_V2 (IsKept js) c.requires.formed  former lt n p)
+    (λ former n p lt. below_V2 (IsKept js) c.requires.formed former lt n p)
 
 pub returns-in-Some-first_breach : goal.returns-in-Some-first_breach
 returns-in-Some-first_breach c =
@@ -22,7 +22,7 @@ returns-in-Some-first_breach c =
     let v2 : IsKept js V2 = subst P1 c.in_default.is c.first_breach.ensures in
     let Q : Option Breach → Type 0 = λ found. IsFirstUnder js V3 found in
     first_of_all js V3 c.in-Some-first_breach.breach (subst Q c.in-Some-first_breach.is c.first_breach-2.ensures)
-        (λ former n p lt. below_V3 (IsKept js) c.requires.formed v2 former lt n p)
+    (λ former n p lt. below_V3 (IsKept js) c.requires.formed v2 former lt n p)
 
 pub returns-in-Some-first_breach-2 : goal.returns-in-Some-first_breach-2
 returns-in-Some-first_breach-2 c =
@@ -33,7 +33,7 @@ returns-in-Some-first_breach-2 c =
     let v3 : IsKept js V3 = subst P2 c.in_default-first_breach.is c.first_breach-2.ensures in
     let Q : Option Breach → Type 0 = λ found. IsFirstUnder js V4 found in
     first_of_all js V4 c.in-Some-first_breach-2.breach (subst Q c.in-Some-first_breach-2.is c.first_breach-3.ensures)
-        (λ former n p lt. below_V4 (IsKept js) c.requires.formed v2 v3 former lt n p)
+    (λ former n p lt. below_V4 (IsKept js) c.requires.formed v2 v3 former lt n p)
 
 pub returns-in-Some-first_breach-3 : goal.returns-in-Some-first_breach-3
 returns-in-Some-first_breach-3 c =
@@ -46,7 +46,7 @@ returns-in-Some-first_breach-3 c =
     let v4 : IsKept js V4 = subst P3 c.in_default-first_breach-2.is c.first_breach-3.ensures in
     let Q : Option Breach → Type 0 = λ found. IsFirstUnder js V5 found in
     first_of_all js V5 c.in-Some-first_breach-3.breach (subst Q c.in-Some-first_breach-3.is c.first_breach-4.ensures)
-        (λ former n p lt. below_V5 (IsKept js) c.requires.formed v2 v3 v4 former lt n p)
+    (λ former n p lt. below_V5 (IsKept js) c.requires.formed v2 v3 v4 former lt n p)
 
 pub returns : goal.returns
 returns c =

@@ -1,7 +1,5 @@
 -- No entry so far is a vote there.
-use Rattle.std.proofs.Common.{◌≡◌, ℕ, ◌<◌, List, take, Contains}
-use Rattle.arc_command.specs.declared.command.Command.{Command}
-use Rattle.arc_voting.specs.Chosen.{HoldsVote}
+use Rattle.std.proofs.Common.{take}
 use Rattle.arc_voting.specs.Parts.{VotesAt}
 use Rattle.arc_voting.proofs.entries.has_vote_at.Given as goal
 

@@ -1,5 +1,5 @@
 -- So many of the nodes so far pass.
-use Rattle.std.proofs.Common.{◌≡◌, ℕ, ◌≤◌}
+use Rattle.std.proofs.Common.{◌≡◌, ◌≤◌}
 use Rattle.arc_bytes.specs.Five.{at}
 use Rattle.arc_voting.proofs.Three.{count_upto}
 use Rattle.arc_voting.proofs.majority.by_three.Given as goal

@@ -1,5 +1,5 @@
 -- It holds of each node so far.
-use Rattle.std.proofs.Common.{◌≡◌, ℕ, ◌<◌, IsTrue}
+use Rattle.std.proofs.Common.{ℕ, ◌<◌, IsTrue}
 use Rattle.arc_bytes.specs.Five.{at}
 use Rattle.arc_voting.proofs.majority.each_of_five.Given as goal
 

@@ -10,10 +10,15 @@ use Rattle.arc_voting.proofs.majority.is_voted_by_three.Goals as goal
 pub returns : goal.returns
 returns c =
     let five : Five Bool = record {
-      d0 = c.node_voted.result; d1 = c.node_voted-2.result; d2 = c.node_voted-3.result; d3 = c.node_voted-4.result; d4 = c.node_voted-5.result } in
+      d0 = c.node_voted.result;
+      d1 = c.node_voted-2.result;
+      d2 = c.node_voted-3.result;
+      d3 = c.node_voted-4.result;
+      d4 = c.node_voted-5.result;
+    } in
     let Same : ℕ → Type 0 = λ n. IsTrue (at five n) ↔
-        HoldsVote (journals_of c.args.journals.now n) c.args.slot.now.number c.args.ballot c.args.command.now in
+    HoldsVote (journals_of c.args.journals.now n) c.args.slot.now.number c.args.ballot c.args.command.now in
     by_three_decided c.by_three.result (λ n. IsTrue (at five n))
-        (λ n. HoldsVote (journals_of c.args.journals.now n) c.args.slot.now.number c.args.ballot c.args.command.now)
-        c.by_three.ensures
-        (below_five Same c.node_voted.ensures c.node_voted-2.ensures c.node_voted-3.ensures c.node_voted-4.ensures c.node_voted-5.ensures)
+    (λ n. HoldsVote (journals_of c.args.journals.now n) c.args.slot.now.number c.args.ballot c.args.command.now)
+    c.by_three.ensures
+    (below_five Same c.node_voted.ensures c.node_voted-2.ensures c.node_voted-3.ensures c.node_voted-4.ensures c.node_voted-5.ensures)

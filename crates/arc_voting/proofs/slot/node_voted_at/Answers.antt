@@ -7,5 +7,5 @@ use Rattle.arc_voting.proofs.slot.node_voted_at.Goals as goal
 pub returns : goal.returns
 returns c =
     votes_in_part (journals_of c.args.journals.now c.args.node) c.args.slot.now.number (at c.args.slot.now.parts c.args.node)
-        c.entries_of.result.now c.has_vote_at.result c.args.ballot
-        (c.requires.shown c.args.node c.requires.of_five) c.entries_of.ensures c.has_vote_at.ensures
+    c.entries_of.result.now c.has_vote_at.result c.args.ballot
+    (c.requires.shown c.args.node c.requires.of_five) c.entries_of.ensures c.has_vote_at.ensures

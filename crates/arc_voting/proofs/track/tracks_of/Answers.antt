@@ -1,5 +1,5 @@
 -- Each journal is well-formed.
-use Rattle.std.proofs.Common.{◌≡◌, ◌<◌, ℕ, List, subst, sym, arith}
+use Rattle.std.proofs.Common.{List, subst, sym, arith}
 use Rattle.arc_command.specs.declared.record.Record.{Record}
 use Rattle.arc_voting.specs.Tracks.{IsWellFormedWhole}
 use Rattle.arc_voting.proofs.track.tracks_of.Goals as goal

@@ -1,5 +1,5 @@
 -- A part is kept, or the slot is past them.
-use Rattle.std.proofs.Common.{◌≡◌, ◌<◌, ◌≤◌, ℕ, List, length, subst, sym, get_or}
+use Rattle.std.proofs.Common.{◌≤◌, List, length, subst}
 use Rattle.arc_voting.specs.declared.slot.Part.{Part}
 use Rattle.arc_voting.proofs.Tracking.{part_kept, part_past}
 use Rattle.arc_voting.proofs.track.Track.part.Goals as goal
