@@ -12,3 +12,6 @@
 mod batch;
 
 pub use batch::{Controls, commit};
+
+#[cfg(test)]
+mod tests;
