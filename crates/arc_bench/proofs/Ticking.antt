@@ -1,5 +1,5 @@
 -- Histories of ticks.
-use Rattle.std.proofs.Common.{◌≡◌, ℕ, zero, suc, ◌+◌, List, [], ◌∷◌, ◌++◌, length, refl, sym, ap, arith, length-append, add-one}
+use Rattle.std.proofs.Common.{◌≡◌, ℕ, zero, suc, ◌+◌, [], ◌∷◌, length, refl, arith, length-append, add-one}
 use mathlib.Core.List.{IsPrefix}
 use Rattle.arc_bench.specs.Ticks.{ticks}
 

@@ -1,6 +1,5 @@
 use Rattle.std.proofs.Common.{◌≡◌, ℕ, List, [], ◌∷◌, ◌++◌, sym, ap, ◌∙◌, subst, rules}
 use mathlib.Core.List.{IsPrefix, map-append}
-use Rattle.arc_turn.specs.History.{History}
 use Rattle.arc_turn.specs.Numbers.{entries_of}
 use Rattle.arc_turn.proofs.Begins.{begins_self}
 use Rattle.arc_turn.proofs.tests.Numbers.push.Goals as goal
