@@ -2,6 +2,7 @@
 //! `bench/` run it and print ratios. No promise rests on it.
 #![tactic(auto)]
 
+mod audit;
 mod http;
 mod journal;
 mod turn;
@@ -12,9 +13,10 @@ fn main(rt: HostRuntime) -> io::Result<()> {
     let mut words = env::args(&rt)?;
     let word = words.nth(1);
     match word.as_ref().map(|word| word.as_str()) {
+        Some("audit") => audit::measure(&rt),
         Some("http") => http::measure(&rt),
         Some("journal") => journal::measure(&rt, words.next()),
         Some("turn") => turn::measure(&rt, rt.alloc()),
-        _ => println!(rt; "measurements: http, journal, turn"),
+        _ => println!(rt; "measurements: audit, http, journal, turn"),
     }
 }
