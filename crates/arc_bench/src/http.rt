@@ -7,13 +7,15 @@ use std::rt::Clock;
 use std::time::Instant;
 
 /// One request of the worked session.
-const REQUEST: &[u8] = b"POST /GetRoutingControlState HTTP/1.1\r\nHost: a\r\nContent-Length: 56\r\n\r\n{\"RoutingControlArn\":\"arn:arc:control/0000000000000001\"}";
+const REQUEST: &[u8] =
+    b"POST /GetRoutingControlState HTTP/1.1\r\nHost: a\r\nContent-Length: 56\r\n\r\n{\"RoutingControlArn\":\"arn:arc:control/0000000000000001\"}";
 
 /// How long it is, in bytes.
 const SIZE: usize = 126;
 
 /// How many requests stand in the buffer, and how often it is read.
 const REQUESTS: usize = 1_000;
+
 const ROUNDS: u32 = 100;
 
 /// The requests, back to back.

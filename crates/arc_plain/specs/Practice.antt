@@ -112,12 +112,14 @@ configured practices resource config =
 
 -- a configuration in which what is given replaces
 abbrev pub replaced : PracticeChange → Configured → Configured
-replaced change kept = record kept { config = record {
-  blocked_dates = unwrap_or change.blocked_dates kept.config.blocked_dates;
-  blocked_windows = unwrap_or change.blocked_windows kept.config.blocked_windows;
-  blocking_alarms = unwrap_or change.blocking_alarms kept.config.blocking_alarms;
-  outcome_alarms = unwrap_or change.outcome_alarms kept.config.outcome_alarms;
-} }
+replaced change kept = record kept {
+  config = record {
+    blocked_dates = unwrap_or change.blocked_dates kept.config.blocked_dates;
+    blocked_windows = unwrap_or change.blocked_windows kept.config.blocked_windows;
+    blocking_alarms = unwrap_or change.blocking_alarms kept.config.blocking_alarms;
+    outcome_alarms = unwrap_or change.outcome_alarms kept.config.outcome_alarms;
+  };
+}
 
 -- A configuration is changed; runs keep the outcome alarms with which they started.
 unfoldable pub config_changed : PlainPractices → ResourceId → PracticeChange → Result PlainPractices Refusal
