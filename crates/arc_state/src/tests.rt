@@ -65,8 +65,7 @@ fn told(alloc: Global, reply: &Reply) -> Result<String, AllocError> {
         Reply::Refused(Refusal::NotFound { id }) => format!(in alloc; "no {id:?}"),
         Reply::Refused(Refusal::Limit { count }) => format!(in alloc; "{count} are kept"),
         Reply::Refused(Refusal::NameTaken { id }) => format!(in alloc; "taken by {id:?}"),
-        Reply::Refused(Refusal::InUse { id }) => format!(in alloc; "in use by {id:?}"),
-        Reply::Refused(Refusal::Forbidden { rules }) => format!(in alloc; "forbidden by {rules:?}"),
+        Reply::Refused(refusal) => format!(in alloc; "{refusal:?}"),
     }
 }
 
