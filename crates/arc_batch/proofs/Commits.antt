@@ -3,14 +3,14 @@ use Rattle.std.proofs.Common.{◌≡◌, ℕ, ◌==◌, ◌<◌, ◌≤◌, ◌-
 use Rattle.std.specs.Option.{is_some}
 use Rattle.arc_ids.specs.declared.named_id.ControlId.{ControlId}
 use Rattle.arc_ids.specs.declared.named_id.RuleId.{RuleId}
-use Rattle.arc_command.specs.declared.command.Batch.{Batch}
-use Rattle.arc_command.specs.declared.command.Entry.{Entry}
-use Rattle.arc_command.specs.declared.reply.Body.TheVariants.{Empty}
-use Rattle.arc_command.specs.declared.reply.ControlItem.{ControlItem}
-use Rattle.arc_command.specs.declared.reply.Named.TheVariants as named
-use Rattle.arc_command.specs.declared.reply.Refusal.TheVariants.{NotFound, Forbidden as IsForbidden}
-use Rattle.arc_command.specs.declared.reply.Reply.TheVariants.{Done, Refused}
-use Rattle.arc_command.specs.declared.rule.Forbidden.{Forbidden}
+use Rattle.arc_data.specs.declared.batch.Batch.{Batch}
+use Rattle.arc_data.specs.declared.batch.Entry.{Entry}
+use Rattle.arc_data.specs.declared.reply.Body.TheVariants.{Empty}
+use Rattle.arc_data.specs.declared.reply.ControlItem.{ControlItem}
+use Rattle.arc_data.specs.declared.reply.Named.TheVariants as named
+use Rattle.arc_data.specs.declared.reply.Refusal.TheVariants.{NotFound, Forbidden as IsForbidden}
+use Rattle.arc_data.specs.declared.reply.Reply.TheVariants.{Done, Refused}
+use Rattle.arc_data.specs.declared.rule.Forbidden.{Forbidden}
 use Rattle.arc_plain.specs.Batch.{commit_batch}
 use Rattle.arc_plain.specs.Controls.{set_by, with_set}
 use Rattle.arc_plain.specs.Panels.{PlainPanels, has_control, on_of, with_states}

@@ -1,9 +1,9 @@
 -- What a batch answers and leaves.
 use Rattle.std.specs.Prelude.{◌≡◌, Result, Ok, Err}
-use Rattle.arc_command.specs.declared.reply.Body.TheVariants.{Empty}
-use Rattle.arc_command.specs.declared.reply.Refusal.{Refusal}
-use Rattle.arc_command.specs.declared.reply.Reply.{Reply}
-use Rattle.arc_command.specs.declared.reply.Reply.TheVariants.{Done, Refused}
+use Rattle.arc_data.specs.declared.reply.Body.TheVariants.{Empty}
+use Rattle.arc_data.specs.declared.reply.Refusal.{Refusal}
+use Rattle.arc_data.specs.declared.reply.Reply.{Reply}
+use Rattle.arc_data.specs.declared.reply.Reply.TheVariants.{Done, Refused}
 use Rattle.arc_plain.specs.Batch.{PlainControls}
 use Rattle.arc_rules.specs.Standing.{StandsFor}
 use Rattle.arc_batch.specs.declared.batch.Controls.{Controls}

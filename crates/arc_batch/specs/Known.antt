@@ -1,6 +1,6 @@
 -- Entries whose controls aren't there.
 use Rattle.std.specs.Prelude.{Bool, not}
-use Rattle.arc_command.specs.declared.command.Entry.{Entry}
+use Rattle.arc_data.specs.declared.batch.Entry.{Entry}
 use Rattle.arc_plain.specs.Panels.{PlainPanels, has_control}
 
 -- whether the control of an entry isn't there

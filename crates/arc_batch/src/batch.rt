@@ -8,7 +8,7 @@ ghost use Rattle.arc_batch.specs.Commit.{Commits};
 ghost use Rattle.arc_batch.specs.Known.{is_unknown};
 
 use arc_bytes::Memory;
-use arc_command::{Batch, Body, ControlId, Entry, List, MAX_MS, Named, Refusal, Reply};
+use arc_data::{Batch, Body, ControlId, Entry, List, MAX_MS, Named, Refusal, Reply};
 use arc_panel::Panels;
 use arc_rules::{Rules, changed_by};
 use std::alloc::Global;

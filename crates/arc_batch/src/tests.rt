@@ -1,5 +1,5 @@
 use super::*;
-use arc_command::{
+use arc_data::{
     Batch, Body, ControlId, Entry, List, MAX_MS, PanelId, Refusal, Reply, RuleConfig, RuleId,
     RuleKind, RuleSpec,
 };

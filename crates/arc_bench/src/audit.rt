@@ -4,7 +4,7 @@ ghost use Rattle.arc_voting.specs.Journals.{journals_of};
 ghost use Rattle.arc_voting.specs.Walk.{HaveRoom};
 
 use arc_bytes::Five;
-use arc_command::{Command, CommandId, ControlId, Op, Record};
+use arc_data::{Command, CommandId, ControlId, Op, Record};
 use arc_voting::audit;
 use std::alloc::{AllocError, Global};
 use std::io;

@@ -1,11 +1,11 @@
 //! A journal of 10,000 entries of about 200 bytes: each closes a `set` with 16 overrides.
 ghost use Rattle.std.specs.Prelude.{◌≡◌, ◌≤◌, ◌<◌, true, IfOk, OnOk};
-ghost use Rattle.arc_command.specs.Valid.{IsValidRecord};
+ghost use Rattle.arc_data.specs.Valid.{IsValidRecord};
 ghost use Rattle.arc_journal.specs.Image.{is_below};
 ghost use Rattle.arc_journal.specs.Journal.{IsSettled, slots_of};
 
 use arc_bytes::Memory;
-use arc_command::{Batch, Command, CommandId, ControlId, Entry, List, Op, Record, RuleId};
+use arc_data::{Batch, Command, CommandId, ControlId, Entry, List, Op, Record, RuleId};
 use arc_disk::{Disk, MemoryDisk};
 use arc_journal::Journal;
 use std::alloc::Global;

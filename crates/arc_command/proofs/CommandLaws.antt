@@ -7,14 +7,14 @@ use Rattle.std.proofs.lemmas.List.{drop_at}
 use Rattle.arc_bytes.specs.Numbers.{number_bytes}
 use Rattle.arc_ids.specs.declared.command_id.CommandId.{CommandId}
 use Rattle.arc_command.specs.declared.bytes.CommandEnd.{CommandEnd}
-use Rattle.arc_command.specs.declared.command.Command.{Command}
-use Rattle.arc_command.specs.declared.command.Op.{Op}
+use Rattle.arc_data.specs.declared.command.Command.{Command}
+use Rattle.arc_data.specs.declared.op.Op.{Op}
 use Rattle.arc_command.specs.Laws.{IsSpellable, BeginsWith, ReadsCommands, HasOneSpelling}
 use Rattle.arc_command.specs.Reader.{pair, within, byte_at, uint_at}
 use Rattle.arc_command.specs.Reading.{Gives, op_at, command_id_at, version_at, time_at, command_at}
 use Rattle.arc_command.specs.Spelling.{op_bytes, id_bytes, command_bytes}
 use Rattle.arc_command.specs.Typed.{IsTypedId, IsTyped}
-use Rattle.arc_command.specs.Valid.{IsInRange, IsValidCommand}
+use Rattle.arc_data.specs.Valid.{IsInRange, IsValidCommand}
 use Rattle.arc_command.proofs.FieldLaws.{IsBytes, ok_is, IsField, pair_field, mapped_field, within_field}
 use Rattle.arc_command.proofs.NumberLaws.{uint_field, wide32}
 use Rattle.arc_command.proofs.ListLaws.{byte_field}

@@ -6,14 +6,14 @@ use Rattle.std.proofs.lemmas.List.{length-append}
 use Rattle.std.proofs.lemmas.List.Concat.{flat_map-cons}
 use Rattle.arc_bytes.specs.Numbers.{number_bytes}
 use Rattle.arc_ids.specs.declared.command_id.CommandId.{CommandId}
-use Rattle.arc_command.specs.declared.command.Command.{Command}
-use Rattle.arc_command.specs.declared.command.Entry.{Entry}
-use Rattle.arc_command.specs.declared.command.Op.{Op}
-use Rattle.arc_command.specs.declared.command.Op.TheVariants.{CreateRoutingControl, GetRoutingControlState, UpdateRoutingControlState}
-use Rattle.arc_command.specs.declared.record.Record.{Record}
-use Rattle.arc_command.specs.declared.record.Record.TheVariants.{Opened, Promised, Voted, Closed}
+use Rattle.arc_data.specs.declared.command.Command.{Command}
+use Rattle.arc_data.specs.declared.batch.Entry.{Entry}
+use Rattle.arc_data.specs.declared.op.Op.{Op}
+use Rattle.arc_data.specs.declared.op.Op.TheVariants.{CreateRoutingControl, GetRoutingControlState, UpdateRoutingControlState}
+use Rattle.arc_data.specs.declared.record.Record.{Record}
+use Rattle.arc_data.specs.declared.record.Record.TheVariants.{Opened, Promised, Voted, Closed}
 use Rattle.arc_command.specs.Spelling.{text_bytes, list_bytes, switch_bytes, entry_bytes, rule_bytes, panel_bytes, control_bytes, fields_of, op_bytes, id_bytes, command_bytes, parts_of, record_bytes}
-use Rattle.arc_command.specs.Valid.{IsValid, IsValidCommand, IsValidRecord}
+use Rattle.arc_data.specs.Valid.{IsValid, IsValidCommand, IsValidRecord}
 
 length-high : (k n : ℕ) → length (bytes_high_first k n) ≡ k
 length-high zero n = refl

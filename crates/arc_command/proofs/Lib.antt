@@ -1,10 +1,7 @@
-pub mod Promises
 pub mod Items
 pub mod Texts
 pub mod Putting
 pub mod Lengths
-pub mod Keys
-pub mod Zones
 pub mod FieldLaws
 pub mod NumberLaws
 pub mod ListLaws

@@ -9,14 +9,14 @@ use Rattle.arc_bytes.specs.Numbers.{number_bytes}
 use Rattle.arc_ids.specs.declared.named_id.ControlId.{ControlId}
 use Rattle.arc_ids.specs.declared.named_id.PanelId.{PanelId}
 use Rattle.arc_ids.specs.declared.named_id.RuleId.{RuleId}
-use Rattle.arc_command.specs.declared.command.Entry.{Entry}
-use Rattle.arc_command.specs.declared.command.Op.{Op}
-use Rattle.arc_command.specs.declared.command.Op.TheVariants.{CreateRoutingControl, GetRoutingControlState, UpdateRoutingControlState}
+use Rattle.arc_data.specs.declared.batch.Entry.{Entry}
+use Rattle.arc_data.specs.declared.op.Op.{Op}
+use Rattle.arc_data.specs.declared.op.Op.TheVariants.{CreateRoutingControl, GetRoutingControlState, UpdateRoutingControlState}
 use Rattle.arc_command.specs.Reader.{Reader, pair, within, byte_at, uint_at, list_at, tagged, nothing}
 use Rattle.arc_command.specs.Reading.{switch_at, panel_at, control_at, rule_at, name_at, entry_at, create_routing_control_at, get_routing_control_state_at, single_update, update_routing_control_state_at, op_at}
 use Rattle.arc_command.specs.Spelling.{text_bytes, list_bytes, switch_bytes, panel_bytes, control_bytes, rule_bytes, entry_bytes, tag_of, fields_of, op_bytes}
 use Rattle.arc_command.specs.Typed.{IsTypedEntry, IsTypedRule, IsTypedOp}
-use Rattle.arc_command.specs.Valid.{IsValid}
+use Rattle.arc_data.specs.Valid.{IsValid}
 use Rattle.arc_command.proofs.FieldLaws.{bind_ok, Stands, Stands-then, Taken, Again, IsField, behind_text, pair_field, mapped_taken, mapped_again, mapped_field, within_field}
 use Rattle.arc_command.proofs.NumberLaws.{uint_field, wide64}
 use Rattle.arc_command.proofs.ListLaws.{byte_field, text_field, list_field, IsTextOf, IsListOf}

@@ -6,9 +6,9 @@ use Rattle.std.proofs.lemmas.Bool.{eqb-true}
 use Rattle.std.proofs.lemmas.List.{append-nil, drop_all}
 use Rattle.arc_bytes.specs.Numbers.{number_bytes}
 use Rattle.arc_command.specs.declared.bytes.CommandEnd.{CommandEnd}
-use Rattle.arc_command.specs.declared.command.Command.{Command}
-use Rattle.arc_command.specs.declared.record.Record.{Record}
-use Rattle.arc_command.specs.declared.record.Record.TheVariants.{Opened, Promised, Voted, Closed}
+use Rattle.arc_data.specs.declared.command.Command.{Command}
+use Rattle.arc_data.specs.declared.record.Record.{Record}
+use Rattle.arc_data.specs.declared.record.Record.TheVariants.{Opened, Promised, Voted, Closed}
 use Rattle.arc_command.specs.Laws.{IsSpellable, IsSpellableRecord, ReadsEntries, EntriesHaveOneSpelling}
 use Rattle.arc_command.specs.Reader.{pair, uint_at, tagged, nothing}
 use Rattle.arc_command.specs.Reading.{Gives, command_at, opened_at, promised_at, voted_at, closed_at, record_at, body_of}

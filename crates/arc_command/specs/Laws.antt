@@ -1,11 +1,11 @@
 -- The laws of the bytes of commands and entries.
 use Rattle.std.specs.Prelude.{ℕ, ◌≡◌, ◌++◌, List, length, drop, Ok}
-use Rattle.arc_command.specs.declared.command.Command.{Command}
-use Rattle.arc_command.specs.declared.record.Record.{Record}
+use Rattle.arc_data.specs.declared.command.Command.{Command}
+use Rattle.arc_data.specs.declared.record.Record.{Record}
 use Rattle.arc_command.specs.Reading.{command_at, body_of}
 use Rattle.arc_command.specs.Spelling.{command_bytes, record_bytes}
 use Rattle.arc_command.specs.Typed.{IsTyped, IsTypedRecord}
-use Rattle.arc_command.specs.Valid.{IsValidCommand, IsValidRecord}
+use Rattle.arc_data.specs.Valid.{IsValidCommand, IsValidRecord}
 
 -- A command that has a spelling: it is within its limits, and so is what it holds within its types.
 pub record IsSpellable (c : Command) : Type 0 where

@@ -1,8 +1,5 @@
-pub mod Valid
 pub mod Typed
 pub mod Spelling
 pub mod Reader
 pub mod Reading
 pub mod Laws
-pub mod Entries
-pub mod States

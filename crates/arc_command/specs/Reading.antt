@@ -7,12 +7,12 @@ use Rattle.arc_ids.specs.declared.named_id.PanelId.{PanelId}
 use Rattle.arc_ids.specs.declared.named_id.RuleId.{RuleId}
 use Rattle.arc_command.specs.declared.bytes.CommandEnd.{CommandEnd}
 use Rattle.arc_command.specs.declared.bytes.CommandEnd.TheVariants as end
-use Rattle.arc_command.specs.declared.command.Command.{Command}
-use Rattle.arc_command.specs.declared.command.Entry.{Entry}
-use Rattle.arc_command.specs.declared.command.Op.{Op}
-use Rattle.arc_command.specs.declared.command.Op.TheVariants.{CreateRoutingControl, GetRoutingControlState, UpdateRoutingControlState}
-use Rattle.arc_command.specs.declared.record.Record.{Record}
-use Rattle.arc_command.specs.declared.record.Record.TheVariants.{Opened, Promised, Voted, Closed}
+use Rattle.arc_data.specs.declared.command.Command.{Command}
+use Rattle.arc_data.specs.declared.batch.Entry.{Entry}
+use Rattle.arc_data.specs.declared.op.Op.{Op}
+use Rattle.arc_data.specs.declared.op.Op.TheVariants.{CreateRoutingControl, GetRoutingControlState, UpdateRoutingControlState}
+use Rattle.arc_data.specs.declared.record.Record.{Record}
+use Rattle.arc_data.specs.declared.record.Record.TheVariants.{Opened, Promised, Voted, Closed}
 use Rattle.arc_command.specs.Reader.{Reader, pair, mapped, within, byte_at, uint_at, text_at, list_at, tagged, nothing, whole}
 
 -- what a function answered is what is read, want of memory apart

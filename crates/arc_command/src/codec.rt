@@ -1,12 +1,12 @@
 //! The four calls: what they read and write is the one spelling.
 ghost use Rattle.std.specs.Prelude.{◌≡◌, ◌+◌, ◌≤◌, ◌++◌, ℕ, List, Ok, length, vec_capacity, IsOk, IfOk, OnErr, OnOk};
-ghost use Rattle.arc_command.specs.declared.command.Command.{Command};
-ghost use Rattle.arc_command.specs.declared.record.Record.{Record};
+ghost use Rattle.arc_data.specs.declared.command.Command.{Command};
+ghost use Rattle.arc_data.specs.declared.record.Record.{Record};
 ghost use Rattle.arc_command.specs.Laws.{BeginsWith, IsSpellable, IsSpellableRecord};
 ghost use Rattle.arc_command.specs.Reading.{Gives, command_at, body_of};
 ghost use Rattle.arc_command.specs.Spelling.{command_bytes, record_bytes};
 ghost use Rattle.arc_command.specs.Typed.{IsTyped, IsTypedRecord};
-ghost use Rattle.arc_command.specs.Valid.{IsValidCommand, IsValidRecord};
+ghost use Rattle.arc_data.specs.Valid.{IsValidCommand, IsValidRecord};
 
 use crate::command_bytes::{put_command, read_command};
 use crate::record_bytes::{put_record, read_record};

@@ -3,7 +3,7 @@ ghost use Rattle.std.specs.Prelude.{◌≡◌, OnOk};
 ghost use Rattle.arc_command.specs.Reading.{Gives, command_at, command_id_at, version_at, time_at};
 ghost use Rattle.arc_command.specs.Spelling.{command_bytes, id_bytes};
 ghost use Rattle.arc_command.specs.Typed.{IsTyped, IsTypedId};
-ghost use Rattle.arc_command.specs.Valid.{IsValidCommand};
+ghost use Rattle.arc_data.specs.Valid.{IsValidCommand};
 ghost use Rattle.arc_bytes.specs.Adding.{Adds};
 
 use crate::field::{put_byte, read_byte, read_u32, read_u64};

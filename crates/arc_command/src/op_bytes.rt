@@ -3,7 +3,7 @@ ghost use Rattle.std.specs.Prelude.{◌≡◌, OnOk};
 ghost use Rattle.arc_command.specs.Reading.{Gives, op_at, create_routing_control_at, get_routing_control_state_at, update_routing_control_state_at};
 ghost use Rattle.arc_command.specs.Spelling.{op_bytes};
 ghost use Rattle.arc_command.specs.Typed.{IsTypedOp};
-ghost use Rattle.arc_command.specs.Valid.{IsValid};
+ghost use Rattle.arc_data.specs.Valid.{IsValid};
 ghost use Rattle.arc_bytes.specs.Adding.{Adds};
 
 use crate::field::{

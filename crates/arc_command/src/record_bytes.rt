@@ -3,7 +3,7 @@ ghost use Rattle.std.specs.Prelude.{◌≡◌, OnOk};
 ghost use Rattle.arc_command.specs.Reading.{Gives, record_at, opened_at, promised_at, voted_at, closed_at};
 ghost use Rattle.arc_command.specs.Spelling.{record_bytes};
 ghost use Rattle.arc_command.specs.Typed.{IsTypedRecord};
-ghost use Rattle.arc_command.specs.Valid.{IsValidRecord};
+ghost use Rattle.arc_data.specs.Valid.{IsValidRecord};
 ghost use Rattle.arc_bytes.specs.Adding.{Adds};
 
 use crate::command_bytes::{put_command, read_command};

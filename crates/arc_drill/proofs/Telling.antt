@@ -4,7 +4,7 @@ use Rattle.std.specs.Prelude.{slice_get}
 use Rattle.std.proofs.lemmas.Bool.{lt-ltb, le-ltb, cases_lt}
 use Rattle.std.proofs.lemmas.List.{take-take, length-take}
 use Rattle.std.proofs.lemmas.Option.{none-some, same_Some, slice_get_within}
-use Rattle.arc_command.specs.declared.command.Command.{Command}
+use Rattle.arc_data.specs.declared.command.Command.{Command}
 use Rattle.arc_plain.specs.State.{Plain, fresh}
 use Rattle.arc_plain.specs.Cluster.{answer, next, fold_of}
 use Rattle.arc_plain.proofs.Counts.{count-next}

@@ -1,6 +1,6 @@
 -- The lines of a report. Each ends in LF.
 use Rattle.std.specs.Prelude.{ℕ, ◌++◌, List, codes, decimal}
-use Rattle.arc_command.specs.declared.reply.Reply.{Reply}
+use Rattle.arc_data.specs.declared.reply.Reply.{Reply}
 use Rattle.arc_json.specs.Reply.{status_of, text_of}
 use Rattle.arc_plain.specs.Cluster.{token_at}
 use Rattle.arc_script.specs.declared.step.ScriptCode.{ScriptCode}

@@ -1,6 +1,6 @@
 -- What a report tells of the steps of a script.
 use Rattle.std.specs.Prelude.{ℕ, ◌≡◌, ◌+◌, ◌<◌, ◌≤◌, List, [], ◌∷◌, length, take, slice_get, Some}
-use Rattle.arc_command.specs.declared.command.Command.{Command}
+use Rattle.arc_data.specs.declared.command.Command.{Command}
 use Rattle.arc_plain.specs.Cluster.{answer, fold_of}
 use Rattle.arc_script.specs.declared.step.Step.{Step}
 use Rattle.arc_script.specs.declared.step.Step.TheVariants.{Call}

@@ -3,7 +3,7 @@ ghost use Rattle.std.specs.Prelude.{◌≡◌, ◌<◌, ◌^◌, IfOk};
 ghost use Rattle.arc_drill.specs.Lines.{bad_line, code_text, full_line, slot_line};
 
 use arc_bytes::Memory;
-use arc_command::Reply;
+use arc_data::Reply;
 use arc_json::reply_text;
 use arc_script::ScriptCode;
 use std::alloc::{AllocError, Global};

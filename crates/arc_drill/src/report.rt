@@ -11,7 +11,7 @@ ghost use Rattle.arc_state.specs.State.{StandsFor};
 
 use crate::{Status, lines};
 use arc_bytes::{Failed, Memory, Sink, write_all};
-use arc_command::{Command, CommandId};
+use arc_data::{Command, CommandId};
 use arc_script::Step;
 use arc_state::State;
 use std::alloc::Global;

@@ -7,7 +7,7 @@ use Rattle.std.proofs.lemmas.Nat.{be_bytes_4, from_be_bytes-to_be_bytes_4}
 use Rattle.std.specs.Int.{w32, from_be_bytes}
 use Rattle.sha2.specs.Sha256.{sha256, digest_bytes}
 use Rattle.arc_bytes.specs.Numbers.{number_bytes}
-use Rattle.arc_command.specs.declared.record.Record.{Record}
+use Rattle.arc_data.specs.declared.record.Record.{Record}
 use Rattle.arc_command.specs.Spelling.{record_bytes}
 use Rattle.arc_journal.specs.Bodies.{record_of}
 use Rattle.arc_journal.specs.Layout.{sealed}

@@ -2,7 +2,7 @@
 use Rattle.std.proofs.Common.{◌≡◌, ◌≢◌, ℕ, ◌+◌, ◌*◌, ◌≤◌, false, Option, None, Some, List, [], ◌∷◌, ◌++◌, length, map, refl, sym, ◌∙◌, ap, subst, arith, length-append}
 use Rattle.std.proofs.lemmas.List.{append-nil, drop_all}
 use Rattle.arc_disk.specs.Disk.{Only, written}
-use Rattle.arc_command.specs.declared.record.Record.{Record}
+use Rattle.arc_data.specs.declared.record.Record.{Record}
 use Rattle.arc_command.specs.Spelling.{record_bytes}
 use Rattle.arc_journal.specs.declared.end.JournalEnd.{JournalEnd}
 use Rattle.arc_journal.specs.declared.end.JournalEnd.TheVariants.{Disk, NotOurs, Rotten, Memory}

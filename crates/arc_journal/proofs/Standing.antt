@@ -1,7 +1,7 @@
 -- A journal that stands, before and after an append.
 use Rattle.std.proofs.Common.{◌≡◌, ⊎_elim, ℕ, ◌+◌, ◌<◌, List, [], ◌∷◌, ◌++◌, length, map, sym, ◌∙◌, ap, subst, arith, length-append}
 use Rattle.arc_disk.specs.Disk.{Only}
-use Rattle.arc_command.specs.declared.record.Record.{Record}
+use Rattle.arc_data.specs.declared.record.Record.{Record}
 use Rattle.arc_command.specs.Spelling.{record_bytes}
 use Rattle.arc_journal.specs.Layout.{head, sealed, entries, entry_limit}
 use Rattle.arc_journal.specs.Torn.{staged, opened, TornInTurn, IsGateShut}

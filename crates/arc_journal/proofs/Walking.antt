@@ -3,7 +3,7 @@ use Rattle.std.proofs.Common.{◌≡◌, ◌≢◌, ℕ, zero, suc, ◌+◌, ◌
 use Rattle.std.proofs.Math.Seq.{take-add}
 use Rattle.std.proofs.lemmas.List.{take_at, drop_more, drop-drop}
 use Rattle.std.proofs.lemmas.Bool.Decides.{nat_tests}
-use Rattle.arc_command.specs.declared.record.Record.{Record}
+use Rattle.arc_data.specs.declared.record.Record.{Record}
 use Rattle.arc_command.specs.Spelling.{record_bytes}
 use Rattle.arc_journal.specs.Layout.{head, sealed, entries, entry_limit}
 use Rattle.arc_journal.specs.declared.end.JournalEnd.{JournalEnd}

@@ -2,7 +2,7 @@
 use Rattle.std.specs.Prelude.{ℕ, ◌≡◌, ◌⊎◌, ◌+◌, ◌*◌, ◌<◌, ◌≤◌, true, false, Option, List, [], ◌∷◌, ◌++◌, length, map, Result, Ok, Err}
 use Rattle.arc_bytes.specs.Counts.{HasRisen}
 use Rattle.arc_disk.specs.Disk.{Only}
-use Rattle.arc_command.specs.declared.record.Record.{Record}
+use Rattle.arc_data.specs.declared.record.Record.{Record}
 use Rattle.arc_command.specs.Spelling.{record_bytes}
 use Rattle.arc_journal.specs.Layout.{head, entries, entry_limit}
 use Rattle.arc_journal.specs.Image.{records_of, IsJournalOf}

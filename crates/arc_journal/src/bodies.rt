@@ -4,7 +4,7 @@ ghost use Rattle.std.specs.Int.{w32};
 ghost use Rattle.sha2.specs.Sha256.{sha256};
 ghost use Rattle.arc_bytes.specs.Numbers.{number_bytes};
 ghost use Rattle.arc_command.specs.Spelling.{record_bytes};
-ghost use Rattle.arc_command.specs.Valid.{IsValidRecord};
+ghost use Rattle.arc_data.specs.Valid.{IsValidRecord};
 ghost use Rattle.arc_journal.specs.Bodies.{record_of};
 ghost use Rattle.arc_journal.specs.Image.{IsKept, is_below};
 ghost use Rattle.arc_journal.specs.Layout.{sealed};

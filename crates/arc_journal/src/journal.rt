@@ -3,7 +3,7 @@ ghost use Rattle.std.specs.Prelude.{◌≡◌, ◌≢◌, ◌≤◌, ◌+◌, �
 ghost use Rattle.arc_bytes.specs.Counts.{HasRisen};
 ghost use Rattle.arc_disk.specs.Calls.{IsNoCall};
 ghost use Rattle.arc_disk.specs.Disk.{IsUntouched, Keeps, LeavesOnly, Only};
-ghost use Rattle.arc_command.specs.Valid.{IsValidRecord};
+ghost use Rattle.arc_data.specs.Valid.{IsValidRecord};
 ghost use Rattle.arc_journal.specs.Image.{IsCausedBy, IsJournalOf, IsNoRefusal, first_fault, is_below, records_of};
 ghost use Rattle.arc_journal.specs.Runs.{OpensInRun};
 ghost use Rattle.arc_journal.specs.Layout.{entry_limit, head};

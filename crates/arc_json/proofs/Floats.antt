@@ -3,15 +3,15 @@ use Rattle.std.proofs.Common.{◌≡◌, Bool, false, List, [], ◌∷◌, map, 
 use Rattle.std.proofs.lemmas.Bool.{or_from}
 use Rattle.serde_json.specs.View.{items_of}
 use Rattle.serde_json.specs.Written.{has_float, items_have_float}
-use Rattle.arc_command.specs.declared.reply.Body.{Body}
-use Rattle.arc_command.specs.declared.reply.Body.TheVariants as body
-use Rattle.arc_command.specs.declared.reply.Refusal.{Refusal}
-use Rattle.arc_command.specs.declared.reply.Refusal.TheVariants as refusal
-use Rattle.arc_command.specs.declared.reply.Reply.{Reply}
-use Rattle.arc_command.specs.declared.reply.Reply.TheVariants.{Done, Refused}
-use Rattle.arc_command.specs.declared.rule.Cause.{Cause}
-use Rattle.arc_command.specs.declared.rule.Cause.TheVariants.{AssertFalse, GateClosed, Waiting}
-use Rattle.arc_command.specs.declared.rule.Forbidden.{Forbidden}
+use Rattle.arc_data.specs.declared.reply.Body.{Body}
+use Rattle.arc_data.specs.declared.reply.Body.TheVariants as body
+use Rattle.arc_data.specs.declared.reply.Refusal.{Refusal}
+use Rattle.arc_data.specs.declared.reply.Refusal.TheVariants as refusal
+use Rattle.arc_data.specs.declared.reply.Reply.{Reply}
+use Rattle.arc_data.specs.declared.reply.Reply.TheVariants.{Done, Refused}
+use Rattle.arc_data.specs.declared.rule.Cause.{Cause}
+use Rattle.arc_data.specs.declared.rule.Cause.TheVariants.{AssertFalse, GateClosed, Waiting}
+use Rattle.arc_data.specs.declared.rule.Forbidden.{Forbidden}
 use Rattle.arc_json.specs.Reply.{body_value, cause_value, forbidden_value, refusal_value, value_of}
 
 -- in the cause of a rule

@@ -5,23 +5,23 @@ use Rattle.serde_json.specs.View.{items_of}
 use Rattle.serde_json.specs.Written.{compact_text}
 use Rattle.arc_ids.specs.Texts.{panel_text, control_text, rule_text, resource_text}
 use Rattle.arc_ids.specs.ShiftTexts.{shift_text}
-use Rattle.arc_command.specs.declared.reply.Body.{Body}
-use Rattle.arc_command.specs.declared.reply.Body.TheVariants.{Empty, Control, ControlState}
-use Rattle.arc_command.specs.declared.reply.Named.{Named}
-use Rattle.arc_command.specs.declared.reply.Named.TheVariants as named
-use Rattle.arc_command.specs.declared.reply.Refusal.{Refusal}
-use Rattle.arc_command.specs.declared.practice.BlockCause.{BlockCause}
-use Rattle.arc_command.specs.declared.practice.BlockCause.TheVariants.{BlockedDate, BlockedWindow, BlockingAlarm, OutcomeAlarm}
-use Rattle.arc_command.specs.declared.reply.Refusal.TheVariants as refusal
-use Rattle.arc_command.specs.declared.rule.Cause.{Cause}
-use Rattle.arc_command.specs.declared.rule.Cause.TheVariants.{AssertFalse, GateClosed, Waiting}
-use Rattle.arc_command.specs.declared.rule.Forbidden.{Forbidden}
-use Rattle.arc_command.specs.declared.shift.Kind.{Kind}
-use Rattle.arc_command.specs.declared.shift.Kind.TheVariants.{Customer, Autoshift, PracticeRun}
-use Rattle.arc_command.specs.declared.shift.Status.{Status}
-use Rattle.arc_command.specs.declared.shift.Status.TheVariants.{Active, Expired, Canceled}
-use Rattle.arc_command.specs.declared.reply.Reply.{Reply}
-use Rattle.arc_command.specs.declared.reply.Reply.TheVariants.{Done, Refused}
+use Rattle.arc_data.specs.declared.reply.Body.{Body}
+use Rattle.arc_data.specs.declared.reply.Body.TheVariants.{Empty, Control, ControlState}
+use Rattle.arc_data.specs.declared.reply.Named.{Named}
+use Rattle.arc_data.specs.declared.reply.Named.TheVariants as named
+use Rattle.arc_data.specs.declared.reply.Refusal.{Refusal}
+use Rattle.arc_data.specs.declared.practice.BlockCause.{BlockCause}
+use Rattle.arc_data.specs.declared.practice.BlockCause.TheVariants.{BlockedDate, BlockedWindow, BlockingAlarm, OutcomeAlarm}
+use Rattle.arc_data.specs.declared.reply.Refusal.TheVariants as refusal
+use Rattle.arc_data.specs.declared.rule.Cause.{Cause}
+use Rattle.arc_data.specs.declared.rule.Cause.TheVariants.{AssertFalse, GateClosed, Waiting}
+use Rattle.arc_data.specs.declared.rule.Forbidden.{Forbidden}
+use Rattle.arc_data.specs.declared.shift.Kind.{Kind}
+use Rattle.arc_data.specs.declared.shift.Kind.TheVariants.{Customer, Autoshift, PracticeRun}
+use Rattle.arc_data.specs.declared.shift.Status.{Status}
+use Rattle.arc_data.specs.declared.shift.Status.TheVariants.{Active, Expired, Canceled}
+use Rattle.arc_data.specs.declared.reply.Reply.{Reply}
+use Rattle.arc_data.specs.declared.reply.Reply.TheVariants.{Done, Refused}
 
 -- the text of whatever has an identifier
 abbrev pub named_text : Named → List ℕ

@@ -4,7 +4,7 @@ ghost use Rattle.serde_json.specs.View.{view};
 ghost use Rattle.arc_json.specs.Reply.{switch_text, body_value};
 
 use arc_bytes::Memory;
-use arc_command::{Body, ControlId, PanelId, Text};
+use arc_data::{Body, ControlId, PanelId, Text};
 use serde_json::{Value, json};
 use std::alloc::Global;
 

@@ -4,7 +4,7 @@ ghost use Rattle.serde_json.specs.View.{view};
 ghost use Rattle.arc_json.specs.Reply.{about, block_word, forbidden_value, kind_word, named_text, refusal_status, refusal_value, shift_word};
 
 use arc_bytes::Memory;
-use arc_command::{BlockCause, Cause, Forbidden, Kind, Named, Refusal, Status};
+use arc_data::{BlockCause, Cause, Forbidden, Kind, Named, Refusal, Status};
 use serde_json::{Value, json};
 use std::alloc::{AllocError, Global};
 

@@ -6,7 +6,7 @@ ghost use Rattle.arc_json.specs.Reply.{status_of, text_of, value_of};
 use crate::body::body_json;
 use crate::refusal::{http_status, refusal_json};
 use arc_bytes::Memory;
-use arc_command::Reply;
+use arc_data::Reply;
 use serde_json::Value;
 use std::alloc::Global;
 

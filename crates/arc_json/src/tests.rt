@@ -1,5 +1,5 @@
 use super::*;
-use arc_command::{
+use arc_data::{
     BlockCause, Body, Cause, ControlId, Forbidden, Kind, List, Named, PanelId, Refusal, Reply,
     ResourceId, RuleId, ShiftId, Status, Text, ZoneName,
 };

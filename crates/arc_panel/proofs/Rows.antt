@@ -12,12 +12,12 @@ use Rattle.std.proofs.lemmas.List.{length-append, length-map, map-append}
 use Rattle.std.proofs.lemmas.List.Elements.{All-push, All-filter, All-weaker, recursion_from_All}
 use Rattle.arc_ids.specs.declared.named_id.ControlId.{ControlId}
 use Rattle.arc_ids.specs.declared.named_id.PanelId.{PanelId}
-use Rattle.arc_command.specs.declared.command.Entry.{Entry}
-use Rattle.arc_command.specs.declared.part_end.PartEnd.TheVariants.{Refused}
-use Rattle.arc_command.specs.declared.reply.ControlItem.{ControlItem}
-use Rattle.arc_command.specs.declared.reply.Named.TheVariants as named
-use Rattle.arc_command.specs.declared.reply.Refusal.TheVariants.{NotFound, Limit, NameTaken, InUse}
-use Rattle.arc_command.specs.States.{has_state, is_on}
+use Rattle.arc_data.specs.declared.batch.Entry.{Entry}
+use Rattle.arc_data.specs.declared.part_end.PartEnd.TheVariants.{Refused}
+use Rattle.arc_data.specs.declared.reply.ControlItem.{ControlItem}
+use Rattle.arc_data.specs.declared.reply.Named.TheVariants as named
+use Rattle.arc_data.specs.declared.reply.Refusal.TheVariants.{NotFound, Limit, NameTaken, InUse}
+use Rattle.arc_data.specs.States.{has_state, is_on}
 use Rattle.arc_plain.specs.Controls.{most_controls}
 use Rattle.arc_plain.specs.Panels.{PlainPanels, add_control, add_panel, has_control, has_panel, list_controls, most_panels, name_of, on_of, panel_of, remove_control, remove_panel, with_states}
 use Rattle.arc_plain.proofs.Lists.{filter-map, found-map, found_through, list_any-map, nothing_through}

@@ -8,8 +8,8 @@ use Rattle.std.specs.FinMap.{FinMap, get, insert, remove, get-insert, get-remove
 use Rattle.std.proofs.lemmas.Bool.{cases_eq, eqb-true}
 use Rattle.std.proofs.lemmas.Bool.Decides.{nat_tests}
 use Rattle.arc_ids.specs.declared.named_id.ControlId.{ControlId}
-use Rattle.arc_command.specs.declared.command.Entry.{Entry}
-use Rattle.arc_command.specs.States.{has_state, is_on}
+use Rattle.arc_data.specs.declared.batch.Entry.{Entry}
+use Rattle.arc_data.specs.States.{has_state, is_on}
 use Rattle.arc_plain.specs.Controls.{set_by, with_set}
 use Rattle.arc_panel.specs.declared.tables.Control.{Control}
 use Rattle.arc_panel.specs.Kept.{item_with}

@@ -1,8 +1,8 @@
 -- What a call of panels tells and leaves.
 use Rattle.std.specs.Prelude.{◌≡◌, Result, Ok, Err, ⊤}
-use Rattle.arc_command.specs.declared.part_end.PartEnd.{PartEnd}
-use Rattle.arc_command.specs.declared.part_end.PartEnd.TheVariants.{Refused, Memory}
-use Rattle.arc_command.specs.declared.reply.Refusal.{Refusal}
+use Rattle.arc_data.specs.declared.part_end.PartEnd.{PartEnd}
+use Rattle.arc_data.specs.declared.part_end.PartEnd.TheVariants.{Refused, Memory}
+use Rattle.arc_data.specs.declared.reply.Refusal.{Refusal}
 use Rattle.arc_plain.specs.Panels.{PlainPanels}
 
 -- an answer with the next value, or a refusal, as a row of the plain cluster gives it

@@ -1,13 +1,13 @@
 //! The panels and controls that are kept.
 ghost use Rattle.std.specs.Prelude.{◌≡◌, ◌-◌, ◌<◌, ◌^◌, ◌∷◌, [], IfOk, IsTrue, OnErr, option_copied};
 ghost use Rattle.arc_ids.specs.declared.named_id.ControlId.{ControlId as Id};
-ghost use Rattle.arc_command.specs.States.{has_state, is_on};
+ghost use Rattle.arc_data.specs.States.{has_state, is_on};
 ghost use Rattle.arc_plain.specs.Panels.{add_control, add_panel, fresh_panels, has_control, list_controls, name_of, on_of, panel_of, remove_control, remove_panel, with_states};
 ghost use Rattle.arc_panel.specs.Rows.{Lists, Tells};
 
 use crate::tables::{self, Control, Panel};
 use arc_bytes::Memory;
-use arc_command::{ControlId, ControlItem, List, Named, PanelId, PartEnd, Refusal, States, Text};
+use arc_data::{ControlId, ControlItem, List, Named, PanelId, PartEnd, Refusal, States, Text};
 use std::alloc::{AllocError, Global};
 use std::marker::Model;
 

@@ -6,7 +6,7 @@ ghost use Rattle.std.specs.Str.{bytes_eq};
 ghost use Rattle.arc_panel.specs.Kept.{item_with, in_scope};
 
 use arc_bytes::Memory;
-use arc_command::{ControlId, ControlItem, PanelId, States, Text};
+use arc_data::{ControlId, ControlItem, PanelId, States, Text};
 use std::alloc::{AllocError, Global};
 
 /// A panel.

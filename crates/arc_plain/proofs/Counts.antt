@@ -1,6 +1,6 @@
 -- How many commands there were, and when.
 use Rattle.std.proofs.Common.{◌≡◌, ◌+◌, ◌≤◌, List, [], ◌∷◌, length, fold, max, refl, arith}
-use Rattle.arc_command.specs.declared.command.Command.{Command}
+use Rattle.arc_data.specs.declared.command.Command.{Command}
 use Rattle.arc_plain.specs.State.{Plain, fresh}
 use Rattle.arc_plain.specs.Cluster.{fold_of, next}
 use Rattle.arc_plain.proofs.Steps.{next_cases}

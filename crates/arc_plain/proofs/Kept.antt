@@ -6,8 +6,8 @@ use Rattle.std.proofs.lemmas.List.{length-append}
 use Rattle.std.proofs.lemmas.List.Elements.{All-push}
 use Rattle.std.proofs.lemmas.List.Quantifiers.{all_pairs_push}
 use Rattle.arc_ids.specs.declared.named_id.PanelId.{PanelId}
-use Rattle.arc_command.specs.declared.command.Command.{Command}
-use Rattle.arc_command.specs.declared.reply.ControlItem.{ControlItem}
+use Rattle.arc_data.specs.declared.command.Command.{Command}
+use Rattle.arc_data.specs.declared.reply.ControlItem.{ControlItem}
 use Rattle.arc_plain.specs.State.{Plain, fresh}
 use Rattle.arc_plain.specs.Controls.{holder_of}
 use Rattle.arc_plain.specs.Cluster.{fold_of, next}

@@ -5,9 +5,9 @@ use Rattle.std.proofs.lemmas.List.{get_or-map, get_or_default, length-map, lengt
 use Rattle.std.proofs.lemmas.List.Elements.{All-push}
 use Rattle.std.proofs.lemmas.List.Quantifiers.{all_pairs_push, position-Some}
 use Rattle.arc_ids.specs.declared.named_id.ResourceId.{ResourceId}
-use Rattle.arc_command.specs.declared.resource.Resource.{Resource}
-use Rattle.arc_command.specs.declared.reply.Named.TheVariants as named
-use Rattle.arc_command.specs.declared.reply.Refusal.TheVariants.{NotFound}
+use Rattle.arc_data.specs.declared.resource.Resource.{Resource}
+use Rattle.arc_data.specs.declared.reply.Named.TheVariants as named
+use Rattle.arc_data.specs.declared.reply.Refusal.TheVariants.{NotFound}
 use Rattle.arc_plain.specs.Resources.{AreKeptResources, PlainResources, autoshift_ended, autoshift_set, is_in_autoshift, most_resources, name_holder, registered, resource_of, switched, with_autoshift, with_resource}
 use Rattle.arc_plain.proofs.Choices.{if_yes}
 use Rattle.arc_plain.proofs.Found.{find_there, find_nowhere}

@@ -1,8 +1,8 @@
 -- Setting controls changes nothing of them but whether they are On.
 use Rattle.std.proofs.Common.{◌≡◌, ℕ, ◌+◌, ◌-◌, ◌<◌, ◌≤◌, ◌==◌, Bool, true, false, cond, List, [], ◌∷◌, map, find, length, get_or, drop, Option, Some, None, AllPairs, refl, sym, ap, ◌∙◌, arith}
 use Rattle.std.proofs.lemmas.List.{get_or-map, length-map, drop_all, drop_more}
-use Rattle.arc_command.specs.declared.command.Entry.{Entry}
-use Rattle.arc_command.specs.declared.reply.ControlItem.{ControlItem}
+use Rattle.arc_data.specs.declared.batch.Entry.{Entry}
+use Rattle.arc_data.specs.declared.reply.ControlItem.{ControlItem}
 use Rattle.arc_plain.specs.Controls.{set_by, with_set}
 use Rattle.arc_plain.specs.Laws.{AreAscending, AreDrawn}
 

@@ -8,9 +8,9 @@ use Rattle.std.proofs.lemmas.List.Kept.{AllPairs-filter}
 use Rattle.std.proofs.lemmas.Grind.{get_or-set_at}
 use Rattle.arc_ids.specs.declared.named_id.ShiftId.{ShiftId}
 use Rattle.arc_ids.specs.declared.named_id.ResourceId.{ResourceId}
-use Rattle.arc_command.specs.declared.shift.Shift.{Shift}
-use Rattle.arc_command.specs.declared.shift.Status.TheVariants.{Active, Expired, Canceled}
-use Rattle.arc_command.specs.declared.reply.Refusal.TheVariants.{NotActive}
+use Rattle.arc_data.specs.declared.shift.Shift.{Shift}
+use Rattle.arc_data.specs.declared.shift.Status.TheVariants.{Active, Expired, Canceled}
+use Rattle.arc_data.specs.declared.reply.Refusal.TheVariants.{NotActive}
 use Rattle.arc_plain.specs.Shifts.{AreAlone, AreApart, AreInOrder, AreKeptShifts, HaveStarted, active_of, changed, is_active, renewed, shift_of, status_at, was_canceled, with_changed}
 use Rattle.arc_plain.proofs.Choices.{if_yes}
 use Rattle.arc_plain.proofs.Found.{find_there}

@@ -4,11 +4,11 @@ use Rattle.std.proofs.Common.{◌≡◌, ℕ, ◌<◌, List, [], ◌∷◌, leng
 use Rattle.std.proofs.lemmas.Bool.{cases_Bool, ltb-true}
 use Rattle.arc_ids.specs.declared.named_id.PanelId.{PanelId}
 use Rattle.arc_ids.specs.declared.named_id.ControlId.{ControlId}
-use Rattle.arc_command.specs.declared.command.Batch.{Batch}
-use Rattle.arc_command.specs.declared.command.Command.{Command}
-use Rattle.arc_command.specs.declared.command.Entry.{Entry}
-use Rattle.arc_command.specs.declared.command.Op.{Op}
-use Rattle.arc_command.specs.declared.command.Op.TheVariants.{CreateRoutingControl, GetRoutingControlState, UpdateRoutingControlState}
+use Rattle.arc_data.specs.declared.batch.Batch.{Batch}
+use Rattle.arc_data.specs.declared.command.Command.{Command}
+use Rattle.arc_data.specs.declared.batch.Entry.{Entry}
+use Rattle.arc_data.specs.declared.op.Op.{Op}
+use Rattle.arc_data.specs.declared.op.Op.TheVariants.{CreateRoutingControl, GetRoutingControlState, UpdateRoutingControlState}
 use Rattle.arc_plain.specs.State.{Plain, has_panel, has_rule, control_of, has_control}
 use Rattle.arc_plain.specs.Controls.{holder_of, with_control, next_control, most_controls, create_control, get_control_state, update_states, with_entries}
 use Rattle.arc_plain.specs.Cluster.{arrived, effect_of, is_ahead, left_by, next}

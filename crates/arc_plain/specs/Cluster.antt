@@ -1,11 +1,11 @@
 -- What a command answers and leaves, and what a list of commands makes.
 use Rattle.std.specs.Prelude.{ℕ, ◌+◌, max, List, fold, nat_lt, Bool, Ok, Err, if◌then◌else◌}
-use Rattle.arc_command.specs.declared.command.Command.{Command}
-use Rattle.arc_command.specs.declared.command.Op.{Op}
-use Rattle.arc_command.specs.declared.command.Op.TheVariants.{CreateRoutingControl, GetRoutingControlState, UpdateRoutingControlState}
-use Rattle.arc_command.specs.declared.reply.Refusal.TheVariants.{TokenAhead}
-use Rattle.arc_command.specs.declared.reply.Reply.{Reply}
-use Rattle.arc_command.specs.declared.reply.Reply.TheVariants.{Done, Refused}
+use Rattle.arc_data.specs.declared.command.Command.{Command}
+use Rattle.arc_data.specs.declared.op.Op.{Op}
+use Rattle.arc_data.specs.declared.op.Op.TheVariants.{CreateRoutingControl, GetRoutingControlState, UpdateRoutingControlState}
+use Rattle.arc_data.specs.declared.reply.Refusal.TheVariants.{TokenAhead}
+use Rattle.arc_data.specs.declared.reply.Reply.{Reply}
+use Rattle.arc_data.specs.declared.reply.Reply.TheVariants.{Done, Refused}
 use Rattle.arc_plain.specs.State.{Plain, fresh}
 use Rattle.arc_plain.specs.Controls.{Effect, create_control, get_control_state, update_states}
 

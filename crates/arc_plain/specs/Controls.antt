@@ -3,14 +3,14 @@ use Rattle.std.specs.Prelude.{ℕ, ◌+◌, ◌==◌, ◌&&◌, ◌++◌, List, 
 use Rattle.std.specs.Str.{bytes_eq}
 use Rattle.arc_ids.specs.declared.named_id.PanelId.{PanelId}
 use Rattle.arc_ids.specs.declared.named_id.ControlId.{ControlId}
-use Rattle.arc_command.specs.declared.command.Batch.{Batch}
-use Rattle.arc_command.specs.declared.command.Entry.{Entry}
-use Rattle.arc_command.specs.declared.reply.Body.{Body}
-use Rattle.arc_command.specs.declared.reply.Body.TheVariants.{Empty, Control, ControlState}
-use Rattle.arc_command.specs.declared.reply.ControlItem.{ControlItem}
-use Rattle.arc_command.specs.declared.reply.Named.TheVariants as named
-use Rattle.arc_command.specs.declared.reply.Refusal.{Refusal}
-use Rattle.arc_command.specs.declared.reply.Refusal.TheVariants.{NotFound, Limit, NameTaken}
+use Rattle.arc_data.specs.declared.batch.Batch.{Batch}
+use Rattle.arc_data.specs.declared.batch.Entry.{Entry}
+use Rattle.arc_data.specs.declared.reply.Body.{Body}
+use Rattle.arc_data.specs.declared.reply.Body.TheVariants.{Empty, Control, ControlState}
+use Rattle.arc_data.specs.declared.reply.ControlItem.{ControlItem}
+use Rattle.arc_data.specs.declared.reply.Named.TheVariants as named
+use Rattle.arc_data.specs.declared.reply.Refusal.{Refusal}
+use Rattle.arc_data.specs.declared.reply.Refusal.TheVariants.{NotFound, Limit, NameTaken}
 use Rattle.arc_plain.specs.State.{Plain, has_panel, has_rule, control_of, has_control}
 
 -- the most controls that are kept

@@ -1,6 +1,6 @@
 -- What holds of the state after every list of commands.
 use Rattle.std.specs.Prelude.{ℕ, ◌≡◌, ◌≢◌, ◌≤◌, ◌<◌, List, All, AllPairs, length}
-use Rattle.arc_command.specs.declared.reply.ControlItem.{ControlItem}
+use Rattle.arc_data.specs.declared.reply.ControlItem.{ControlItem}
 use Rattle.arc_plain.specs.Controls.{most_controls}
 
 -- each control's identifier is below those of the controls after it, so that no two have one identifier

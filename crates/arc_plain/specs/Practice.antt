@@ -8,21 +8,21 @@ use Rattle.arc_ids.specs.declared.named_id.ShiftId.{ShiftId}
 use Rattle.arc_window.specs.declared.blocking.BlockedBy.{BlockedBy}
 use Rattle.arc_window.specs.declared.blocking.BlockedBy.TheVariants as by
 use Rattle.arc_window.specs.Blocked.{blocked_at}
-use Rattle.arc_command.specs.declared.practice.Ending.{Ending}
-use Rattle.arc_command.specs.declared.practice.Ending.TheVariants.{Alarm, Interrupt}
-use Rattle.arc_command.specs.declared.practice.Run.{Run}
-use Rattle.arc_command.specs.declared.practice.Configured.{Configured}
-use Rattle.arc_command.specs.declared.practice.PracticeConfig.{PracticeConfig}
-use Rattle.arc_command.specs.declared.practice.PracticeChange.{PracticeChange}
-use Rattle.arc_command.specs.declared.practice.BlockCause.{BlockCause}
-use Rattle.arc_command.specs.declared.practice.BlockCause.TheVariants.{BlockedDate, BlockedWindow, BlockingAlarm, OutcomeAlarm}
-use Rattle.arc_command.specs.declared.shift.Outcome.{Outcome}
-use Rattle.arc_command.specs.declared.shift.Outcome.TheVariants.{Pending, Succeeded, Failed, Interrupted}
-use Rattle.arc_command.specs.declared.shift.Status.{Status}
-use Rattle.arc_command.specs.declared.shift.Status.TheVariants as shift
-use Rattle.arc_command.specs.declared.reply.Named.TheVariants as named
-use Rattle.arc_command.specs.declared.reply.Refusal.{Refusal}
-use Rattle.arc_command.specs.declared.reply.Refusal.TheVariants as refusal
+use Rattle.arc_data.specs.declared.practice.Ending.{Ending}
+use Rattle.arc_data.specs.declared.practice.Ending.TheVariants.{Alarm, Interrupt}
+use Rattle.arc_data.specs.declared.practice.Run.{Run}
+use Rattle.arc_data.specs.declared.practice.Configured.{Configured}
+use Rattle.arc_data.specs.declared.practice.PracticeConfig.{PracticeConfig}
+use Rattle.arc_data.specs.declared.practice.PracticeChange.{PracticeChange}
+use Rattle.arc_data.specs.declared.practice.BlockCause.{BlockCause}
+use Rattle.arc_data.specs.declared.practice.BlockCause.TheVariants.{BlockedDate, BlockedWindow, BlockingAlarm, OutcomeAlarm}
+use Rattle.arc_data.specs.declared.shift.Outcome.{Outcome}
+use Rattle.arc_data.specs.declared.shift.Outcome.TheVariants.{Pending, Succeeded, Failed, Interrupted}
+use Rattle.arc_data.specs.declared.shift.Status.{Status}
+use Rattle.arc_data.specs.declared.shift.Status.TheVariants as shift
+use Rattle.arc_data.specs.declared.reply.Named.TheVariants as named
+use Rattle.arc_data.specs.declared.reply.Refusal.{Refusal}
+use Rattle.arc_data.specs.declared.reply.Refusal.TheVariants as refusal
 
 -- the configurations of resources, the runs by ascending identifier, and the alarms that are red
 pub record PlainPractices : Type 0 where

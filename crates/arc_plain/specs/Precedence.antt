@@ -4,10 +4,10 @@ use Rattle.std.specs.List.{list_any}
 use Rattle.std.specs.Option.{option_map}
 use Rattle.std.specs.Str.{bytes_eq}
 use Rattle.arc_ids.specs.declared.named_id.ResourceId.{ResourceId}
-use Rattle.arc_command.specs.declared.resource.Resource.{Resource}
-use Rattle.arc_command.specs.declared.shift.Kind.{Kind}
-use Rattle.arc_command.specs.declared.shift.Kind.TheVariants.{Customer, Autoshift, PracticeRun}
-use Rattle.arc_command.specs.declared.shift.Shift.{Shift}
+use Rattle.arc_data.specs.declared.resource.Resource.{Resource}
+use Rattle.arc_data.specs.declared.shift.Kind.{Kind}
+use Rattle.arc_data.specs.declared.shift.Kind.TheVariants.{Customer, Autoshift, PracticeRun}
+use Rattle.arc_data.specs.declared.shift.Shift.{Shift}
 use Rattle.arc_plain.specs.Shifts.{active_of}
 use Rattle.arc_plain.specs.Resources.{PlainResources, resource_of}
 use Rattle.arc_plain.specs.Practice.{PlainPractices, pending_of}

@@ -3,11 +3,11 @@ use Rattle.std.specs.Prelude.{ℕ, ◌+◌, ◌<◌, ◌≤◌, ◌==◌, ◌++�
 use Rattle.std.specs.List.{list_any}
 use Rattle.std.specs.Str.{bytes_eq}
 use Rattle.arc_ids.specs.declared.named_id.ResourceId.{ResourceId}
-use Rattle.arc_command.specs.declared.resource.Resource.{Resource}
-use Rattle.arc_command.specs.declared.resource.ResourceItem.{ResourceItem}
-use Rattle.arc_command.specs.declared.reply.Named.TheVariants as named
-use Rattle.arc_command.specs.declared.reply.Refusal.{Refusal}
-use Rattle.arc_command.specs.declared.reply.Refusal.TheVariants.{NotFound, Limit, NameTaken, Started}
+use Rattle.arc_data.specs.declared.resource.Resource.{Resource}
+use Rattle.arc_data.specs.declared.resource.ResourceItem.{ResourceItem}
+use Rattle.arc_data.specs.declared.reply.Named.TheVariants as named
+use Rattle.arc_data.specs.declared.reply.Refusal.{Refusal}
+use Rattle.arc_data.specs.declared.reply.Refusal.TheVariants.{NotFound, Limit, NameTaken, Started}
 use Rattle.arc_plain.specs.Controls.{◌>>=◌, require, refuse_found}
 
 -- the resources in order of registration, how many identifiers were drawn, and the zones in autoshift in order of start

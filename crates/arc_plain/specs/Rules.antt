@@ -7,19 +7,19 @@ use Rattle.std.specs.Str.{bytes_eq}
 use Rattle.arc_ids.specs.declared.named_id.PanelId.{PanelId}
 use Rattle.arc_ids.specs.declared.named_id.ControlId.{ControlId}
 use Rattle.arc_ids.specs.declared.named_id.RuleId.{RuleId}
-use Rattle.arc_command.specs.declared.command.Batch.{Batch}
-use Rattle.arc_command.specs.declared.command.Entry.{Entry}
-use Rattle.arc_command.specs.declared.reply.Named.TheVariants as named
-use Rattle.arc_command.specs.declared.reply.Refusal.{Refusal}
-use Rattle.arc_command.specs.declared.reply.Refusal.TheVariants.{NotFound, Limit, NameTaken}
-use Rattle.arc_command.specs.declared.rule.Cause.{Cause}
-use Rattle.arc_command.specs.declared.rule.Cause.TheVariants.{AssertFalse, GateClosed, Waiting}
-use Rattle.arc_command.specs.declared.rule.Forbidden.{Forbidden}
-use Rattle.arc_command.specs.declared.rule.RuleConfig.{RuleConfig}
-use Rattle.arc_command.specs.declared.rule.RuleItem.{RuleItem}
-use Rattle.arc_command.specs.declared.rule.RuleKind.{RuleKind}
-use Rattle.arc_command.specs.declared.rule.RuleKind.TheVariants.{And, Or, AtLeast}
-use Rattle.arc_command.specs.declared.rule.RuleSpec.{RuleSpec}
+use Rattle.arc_data.specs.declared.batch.Batch.{Batch}
+use Rattle.arc_data.specs.declared.batch.Entry.{Entry}
+use Rattle.arc_data.specs.declared.reply.Named.TheVariants as named
+use Rattle.arc_data.specs.declared.reply.Refusal.{Refusal}
+use Rattle.arc_data.specs.declared.reply.Refusal.TheVariants.{NotFound, Limit, NameTaken}
+use Rattle.arc_data.specs.declared.rule.Cause.{Cause}
+use Rattle.arc_data.specs.declared.rule.Cause.TheVariants.{AssertFalse, GateClosed, Waiting}
+use Rattle.arc_data.specs.declared.rule.Forbidden.{Forbidden}
+use Rattle.arc_data.specs.declared.rule.RuleConfig.{RuleConfig}
+use Rattle.arc_data.specs.declared.rule.RuleItem.{RuleItem}
+use Rattle.arc_data.specs.declared.rule.RuleKind.{RuleKind}
+use Rattle.arc_data.specs.declared.rule.RuleKind.TheVariants.{And, Or, AtLeast}
+use Rattle.arc_data.specs.declared.rule.RuleSpec.{RuleSpec}
 use Rattle.arc_plain.specs.Controls.{◌>>=◌, require, refuse_found}
 
 -- a rule, what it is made of, and how many changes had been accepted when it was made

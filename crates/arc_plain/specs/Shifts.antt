@@ -3,13 +3,13 @@ use Rattle.std.specs.Prelude.{◌≡◌, ℕ, ◌+◌, ◌*◌, ◌<◌, ◌≤�
 use Rattle.std.specs.Option.{option_map_or}
 use Rattle.arc_ids.specs.declared.named_id.ResourceId.{ResourceId}
 use Rattle.arc_ids.specs.declared.named_id.ShiftId.{ShiftId}
-use Rattle.arc_command.specs.declared.shift.Shift.{Shift}
-use Rattle.arc_command.specs.declared.shift.Kind.TheVariants.{Customer}
-use Rattle.arc_command.specs.declared.shift.Status.{Status}
-use Rattle.arc_command.specs.declared.shift.Status.TheVariants.{Active, Expired, Canceled}
-use Rattle.arc_command.specs.declared.reply.Named.TheVariants as named
-use Rattle.arc_command.specs.declared.reply.Refusal.{Refusal}
-use Rattle.arc_command.specs.declared.reply.Refusal.TheVariants.{NotFound, NotActive, Busy}
+use Rattle.arc_data.specs.declared.shift.Shift.{Shift}
+use Rattle.arc_data.specs.declared.shift.Kind.TheVariants.{Customer}
+use Rattle.arc_data.specs.declared.shift.Status.{Status}
+use Rattle.arc_data.specs.declared.shift.Status.TheVariants.{Active, Expired, Canceled}
+use Rattle.arc_data.specs.declared.reply.Named.TheVariants as named
+use Rattle.arc_data.specs.declared.reply.Refusal.{Refusal}
+use Rattle.arc_data.specs.declared.reply.Refusal.TheVariants.{NotFound, NotActive, Busy}
 
 -- ---- what became of a shift
 

@@ -3,7 +3,7 @@ use Rattle.std.specs.Prelude.{ℕ, ◌==◌, Bool, false, List, [], find, Option
 use Rattle.arc_ids.specs.declared.named_id.PanelId.{PanelId}
 use Rattle.arc_ids.specs.declared.named_id.ControlId.{ControlId}
 use Rattle.arc_ids.specs.declared.named_id.RuleId.{RuleId}
-use Rattle.arc_command.specs.declared.reply.ControlItem.{ControlItem}
+use Rattle.arc_data.specs.declared.reply.ControlItem.{ControlItem}
 
 -- The whole state, as plain lists:
 -- time, the greatest time of the commands so far, in milliseconds, refused ones and reads included;

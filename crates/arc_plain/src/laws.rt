@@ -1,8 +1,8 @@
 //! Laws of the plain cluster.
 ghost use Rattle.std.specs.Prelude.{◌≡◌, ◌+◌, ◌≤◌, ◌⊎◌, ◌++◌, ◌∷◌, [], List, length};
-ghost use Rattle.arc_command.specs.declared.command.Command.{Command};
-ghost use Rattle.arc_command.specs.declared.reply.Refusal.{Refusal};
-ghost use Rattle.arc_command.specs.declared.reply.Reply.TheVariants.{Refused};
+ghost use Rattle.arc_data.specs.declared.command.Command.{Command};
+ghost use Rattle.arc_data.specs.declared.reply.Refusal.{Refusal};
+ghost use Rattle.arc_data.specs.declared.reply.Reply.TheVariants.{Refused};
 ghost use Rattle.arc_plain.specs.State.{Plain};
 ghost use Rattle.arc_plain.specs.Laws.{AreDrawn, AreNamedApart, IsWithinLimit};
 ghost use Rattle.arc_plain.specs.Cluster.{answer, arrived, fold_of, next};

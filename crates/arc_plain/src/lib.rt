@@ -9,7 +9,7 @@
 //! in `Part`. Every crate above cites these definitions; that the five nodes behave as one plain cluster is what the
 //! product promises.
 //!
-//! It stands on `arc_command` for the words. Its only code is laws: functions without a body, whose contracts say what
+//! It stands on `arc_data` for the words. Its only code is laws: functions without a body, whose contracts say what
 //! holds of the definitions.
 #![tactic(auto)]
 

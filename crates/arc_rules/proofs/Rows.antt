@@ -11,15 +11,15 @@ use Rattle.std.proofs.lemmas.List.Quantifiers.{position-Some}
 use Rattle.arc_ids.specs.declared.named_id.ControlId.{ControlId}
 use Rattle.arc_ids.specs.declared.named_id.PanelId.{PanelId}
 use Rattle.arc_ids.specs.declared.named_id.RuleId.{RuleId}
-use Rattle.arc_command.specs.declared.part_end.PartEnd.TheVariants.{Refused}
-use Rattle.arc_command.specs.declared.reply.Named.TheVariants as named
-use Rattle.arc_command.specs.declared.reply.Refusal.TheVariants.{NotFound, Limit, NameTaken}
-use Rattle.arc_command.specs.declared.rule.RuleSpec.{RuleSpec}
+use Rattle.arc_data.specs.declared.part_end.PartEnd.TheVariants.{Refused}
+use Rattle.arc_data.specs.declared.reply.Named.TheVariants as named
+use Rattle.arc_data.specs.declared.reply.Refusal.TheVariants.{NotFound, Limit, NameTaken}
+use Rattle.arc_data.specs.declared.rule.RuleSpec.{RuleSpec}
 use Rattle.arc_plain.specs.Rules.{Change, PlainRule, PlainRules, add_rule, change_first, holds_name, is_among, is_gate, is_rule, item_of, most_rules, remove_rule, renamed, rules_in, update_rule, watched_by, with_changes}
 use Rattle.arc_plain.proofs.Found.{find_nowhere, find_there}
 use Rattle.arc_rules.specs.declared.kept.Kept.{Kept}
 use Rattle.arc_rules.specs.declared.rules.Rules.{Rules}
-use Rattle.arc_command.specs.declared.command.TheConstants.{MAX_MS}
+use Rattle.arc_data.specs.declared.command.TheConstants.{MAX_MS}
 use Rattle.arc_rules.specs.Kept.{IsTimely, noted, renamed_kept}
 use Rattle.arc_rules.specs.Standing.{StandsFor, Tells, kept_of}
 use Rattle.arc_plain.proofs.Lists.{found_through, nothing_through, change_first-map, changed_at, filter-map, find-map}

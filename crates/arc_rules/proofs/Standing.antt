@@ -5,8 +5,8 @@ use Rattle.std.specs.Option.{option_map}
 use Rattle.std.proofs.lemmas.List.{length-map}
 use Rattle.arc_ids.specs.declared.named_id.ControlId.{ControlId}
 use Rattle.arc_ids.specs.declared.named_id.RuleId.{RuleId}
-use Rattle.arc_command.specs.declared.command.Batch.{Batch}
-use Rattle.arc_command.specs.declared.rule.RuleSpec.{RuleSpec}
+use Rattle.arc_data.specs.declared.batch.Batch.{Batch}
+use Rattle.arc_data.specs.declared.rule.RuleSpec.{RuleSpec}
 use Rattle.arc_plain.specs.Rules.{PlainRules, forbidding, has_rule}
 use Rattle.arc_rules.specs.Kept.{forbids_kept}
 use Rattle.arc_rules.specs.declared.rules.Rules.{Rules}

@@ -3,9 +3,9 @@ use Rattle.std.specs.Prelude.{ℕ, ◌≤◌, List, length, Bool, All, Option, S
 use Rattle.std.specs.List.{list_any}
 use Rattle.arc_ids.specs.declared.named_id.ControlId.{ControlId}
 use Rattle.arc_ids.specs.declared.named_id.RuleId.{RuleId}
-use Rattle.arc_command.specs.declared.command.Batch.{Batch}
-use Rattle.arc_command.specs.declared.command.TheConstants.{MAX_MS}
-use Rattle.arc_command.specs.declared.rule.Forbidden.{Forbidden}
+use Rattle.arc_data.specs.declared.batch.Batch.{Batch}
+use Rattle.arc_data.specs.declared.command.TheConstants.{MAX_MS}
+use Rattle.arc_data.specs.declared.rule.Forbidden.{Forbidden}
 use Rattle.arc_plain.specs.Rules.{forbids, is_among, watched_by, most_rules, renamed}
 use Rattle.arc_rules.specs.declared.kept.Kept.{Kept}
 

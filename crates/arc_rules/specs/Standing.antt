@@ -1,8 +1,8 @@
 -- What kept rules stand for.
 use Rattle.std.specs.Prelude.{ℕ, ◌≡◌, ◌≤◌, List, length, map, All, Result, Ok, Err, ⊤}
-use Rattle.arc_command.specs.declared.part_end.PartEnd.{PartEnd}
-use Rattle.arc_command.specs.declared.part_end.PartEnd.TheVariants.{Refused, Memory}
-use Rattle.arc_command.specs.declared.reply.Refusal.{Refusal}
+use Rattle.arc_data.specs.declared.part_end.PartEnd.{PartEnd}
+use Rattle.arc_data.specs.declared.part_end.PartEnd.TheVariants.{Refused, Memory}
+use Rattle.arc_data.specs.declared.reply.Refusal.{Refusal}
 use Rattle.arc_plain.specs.Rules.{PlainRule, PlainRules, Change, last_change}
 use Rattle.arc_rules.specs.declared.kept.Kept.{Kept}
 use Rattle.arc_rules.specs.declared.rules.Rules.{Rules}

@@ -1,10 +1,10 @@
 //! The value of a rule.
 ghost use Rattle.std.specs.Prelude.{◌≡◌, count_by};
 ghost use Rattle.std.specs.List.{list_all, list_any};
-ghost use Rattle.arc_command.specs.States.{is_on};
+ghost use Rattle.arc_data.specs.States.{is_on};
 ghost use Rattle.arc_plain.specs.Rules.{after, is_met, value_of};
 
-use arc_command::{ControlId, Entry, RuleConfig, RuleKind, States};
+use arc_data::{ControlId, Entry, RuleConfig, RuleKind, States};
 
 /// Whether a rule over these controls is true: all of them are On, or some, or as many as the threshold; negated where
 /// it is inverted.

@@ -1,14 +1,14 @@
 //! Which rules forbid a batch.
 ghost use Rattle.std.specs.Prelude.{◌≡◌, ◌+◌, ◌<◌, ◌≤◌, ◌^◌, IfOk, IfSome, All};
 ghost use Rattle.std.specs.List.{filter_map, list_any};
-ghost use Rattle.arc_command.specs.States.{is_on};
+ghost use Rattle.arc_data.specs.States.{is_on};
 ghost use Rattle.arc_plain.specs.Rules.{after, cause_of, changed_by, forbids, overrides, value_cause, wait_cause};
 ghost use Rattle.arc_rules.specs.Kept.{AreTimely, IsTimely, forbids_kept};
 
 use crate::evaluation::{is_on_after, value, value_after};
 use crate::kept::{Kept, is_gate, watches_any};
 use arc_bytes::Memory;
-use arc_command::{Batch, Cause, ControlId, Entry, Forbidden, MAX_MS, RuleId, RuleSpec, States};
+use arc_data::{Batch, Cause, ControlId, Entry, Forbidden, MAX_MS, RuleId, RuleSpec, States};
 use std::alloc::{AllocError, Global};
 
 /// The rules that forbid a batch at a list time, with their causes, in order.

@@ -4,7 +4,7 @@ ghost use Rattle.arc_plain.specs.Rules.{is_among, names_control, watched_by, is_
 ghost use Rattle.std.specs.List.{list_any};
 ghost use Rattle.arc_rules.specs.Kept.{noted};
 
-use arc_command::{ControlId, RuleId, RuleSpec};
+use arc_data::{ControlId, RuleId, RuleSpec};
 
 /// A rule, what it is made of, and when a control that it watches was last changed since it was made.
 #[derive(Drop)]

@@ -16,7 +16,7 @@ mod kept;
 mod rules;
 mod table;
 
-pub use arc_command::{Cause, Forbidden};
+pub use arc_data::{Cause, Forbidden};
 pub use evaluation::value;
 pub use forbid::changed_by;
 pub use rules::Rules;

@@ -1,6 +1,6 @@
 //! The rules that are kept.
 ghost use Rattle.std.specs.Prelude.{◌≡◌, ◌-◌, ◌<◌, ◌≤◌, ◌==◌, ◌^◌, IfOk, OnErr, filter, find, get_or, not, set, vec_len};
-ghost use Rattle.arc_command.specs.States.{is_on};
+ghost use Rattle.arc_data.specs.States.{is_on};
 ghost use Rattle.arc_plain.specs.Rules.{PlainRules, add_rule, forbidding, fresh_rules, has_rule, remove_rule, rules_in, update_rule, user_of, with_changes};
 ghost use Rattle.arc_rules.specs.Kept.{renamed_kept};
 ghost use Rattle.arc_rules.specs.Standing.{Does, StandsFor, drawn_of};
@@ -8,7 +8,7 @@ ghost use Rattle.arc_rules.specs.Standing.{Does, StandsFor, drawn_of};
 use crate::kept::{Kept, note_all};
 use crate::{forbid, table};
 use arc_bytes::Memory;
-use arc_command::{
+use arc_data::{
     Batch, ControlId, Forbidden, List, MAX_MS, Named, PanelId, PartEnd, Refusal, RuleId, RuleItem,
     RuleSpec, States, Text,
 };

@@ -8,7 +8,7 @@ ghost use Rattle.arc_plain.specs.Rules.{holds_name, is_gate, item_of, names_cont
 
 use crate::kept::{Kept, is_gate, names_control};
 use arc_bytes::Memory;
-use arc_command::{ControlId, PanelId, RuleId, RuleItem, Text};
+use arc_data::{ControlId, PanelId, RuleId, RuleItem, Text};
 use std::alloc::{AllocError, Global};
 
 /// Whether there is a rule.

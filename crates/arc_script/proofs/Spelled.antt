@@ -10,7 +10,7 @@ use Rattle.std.proofs.lemmas.Fmt.{decimal_nonempty, digits_decimal, IsAscii-deci
 use Rattle.std.proofs.lemmas.List.Elements.{All-from_recursion}
 use Rattle.std.proofs.lemmas.List.Splits.{slice_split_at, slice_split_none}
 use Rattle.std.proofs.lemmas.Str.{IsUtf8-append, IsUtf8-from_ascii, is_utf8-from_IsUtf8}
-use Rattle.arc_command.specs.declared.command.TheConstants.{MAX_MS}
+use Rattle.arc_data.specs.declared.command.TheConstants.{MAX_MS}
 use Rattle.arc_script.specs.declared.step.Step.TheVariants.{Call}
 use Rattle.arc_script.specs.Grammar.{head_of, is_empty, new_line, get_line, set_line, new_control, get_control, set_control, step_of_words, step_of}
 use Rattle.arc_script.specs.Spelling.{IsWord, line, state_word}

@@ -3,9 +3,9 @@ use Rattle.std.specs.Prelude.{ℕ, ◌≡◌, ◌+◌, ◌==◌, Bool, false, no
 use Rattle.std.specs.List.{slice_split, list_any}
 use Rattle.std.specs.Str.{bytes_eq, is_utf8}
 use Rattle.std.specs.Str.Lines.{strip_carriage_return}
-use Rattle.arc_command.specs.declared.command.Op.{Op}
-use Rattle.arc_command.specs.declared.command.Op.TheVariants.{CreateRoutingControl, GetRoutingControlState, UpdateRoutingControlState}
-use Rattle.arc_command.specs.declared.command.TheConstants.{MAX_MS}
+use Rattle.arc_data.specs.declared.op.Op.{Op}
+use Rattle.arc_data.specs.declared.op.Op.TheVariants.{CreateRoutingControl, GetRoutingControlState, UpdateRoutingControlState}
+use Rattle.arc_data.specs.declared.command.TheConstants.{MAX_MS}
 use Rattle.arc_script.specs.declared.step.Head.{Head}
 use Rattle.arc_script.specs.declared.step.ScriptCode.{ScriptCode}
 use Rattle.arc_script.specs.declared.step.ScriptCode.TheVariants.{NotUtf8, Word, Shape, TooLong}

@@ -1,7 +1,7 @@
 -- What a step has to be.
 use Rattle.std.specs.Prelude.{◌≤◌, ◌<◌, ◌^◌}
-use Rattle.arc_command.specs.Valid.{IsValid}
-use Rattle.arc_command.specs.declared.command.TheConstants.{MAX_MS}
+use Rattle.arc_data.specs.Valid.{IsValid}
+use Rattle.arc_data.specs.declared.command.TheConstants.{MAX_MS}
 use Rattle.arc_script.specs.declared.step.Step.{Step}
 use Rattle.arc_script.specs.declared.step.Step.TheVariants.{Call}
 

@@ -1,7 +1,7 @@
 //! Laws of the grammar.
 ghost use Rattle.std.specs.Prelude.{◌≡◌, ◌<◌, ◌≤◌, ◌^◌, ◌↔◌, ℕ, Bool, List, [], ◌∷◌, length, codes, Some, Ok};
 ghost use Rattle.std.specs.Fmt.{decimal};
-ghost use Rattle.arc_command.specs.declared.command.TheConstants.{MAX_MS};
+ghost use Rattle.arc_data.specs.declared.command.TheConstants.{MAX_MS};
 ghost use Rattle.arc_script.specs.declared.step.Step.TheVariants.{Call};
 ghost use Rattle.arc_script.specs.Grammar.{new_control, get_control, set_control, step_of};
 ghost use Rattle.arc_script.specs.Spelling.{IsWord, line, state_word};

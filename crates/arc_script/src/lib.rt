@@ -1,6 +1,6 @@
 //! Scripts: the text of a drill, read into steps.
 //!
-//! It stands on `arc_command` for what a call asks for, and on `memchr` for the ends of lines. The drill stands on it.
+//! It stands on `arc_data` for what a call asks for, and on `memchr` for the ends of lines. The drill stands on it.
 //!
 //! The law that it keeps: a text is read exactly by its grammar, which `specs/` states apart from this code. What is in
 //! the grammar is read as the steps that it spells, and what isn't is refused with its first bad line and the code of

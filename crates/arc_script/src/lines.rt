@@ -4,13 +4,13 @@ ghost use Rattle.std.specs.List.{list_any, slice_split};
 ghost use Rattle.arc_script.specs.Grammar.{call, head_of, new_line, get_line, set_line, is_empty, shaped, step_of_words, step_of};
 ghost use Rattle.arc_script.specs.Reading.{Spells, Reads};
 ghost use Rattle.arc_script.specs.Steps.{IsValidStep};
-ghost use Rattle.arc_command.specs.Valid.{IsValid};
-ghost use Rattle.arc_command.specs.declared.command.Op.{Op};
+ghost use Rattle.arc_data.specs.Valid.{IsValid};
+ghost use Rattle.arc_data.specs.declared.op.Op.{Op};
 
 use crate::step::Head;
 use crate::words::{read_endpoint, read_long, read_name, read_number, read_state};
 use crate::{LineEnd, ScriptCode, Step};
-use arc_command::{Batch, ControlId, Entry, List, MAX_MS, Op, PanelId, Text};
+use arc_data::{Batch, ControlId, Entry, List, MAX_MS, Op, PanelId, Text};
 use std::alloc::{AllocError, Global};
 
 /// The one panel that there is.

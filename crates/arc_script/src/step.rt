@@ -1,5 +1,5 @@
 //! The steps of a script, and why a text is none.
-use arc_command::Op;
+use arc_data::Op;
 
 /// The longest script, in bytes.
 pub const MAX_SCRIPT: usize = 16_777_216;

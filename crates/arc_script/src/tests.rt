@@ -1,6 +1,6 @@
 //! Scripts and their steps or bad lines, worked out by hand from the grammar.
 use super::*;
-use arc_command::{ControlId, Op};
+use arc_data::{ControlId, Op};
 use std::alloc::{AllocError, Global};
 use std::test::Fail;
 

@@ -2,7 +2,7 @@
 ghost use Rattle.std.specs.Prelude.{◌≡◌, ◌<◌, ◌≤◌, IfOk};
 ghost use Rattle.std.specs.Char.{is_ascii_digit};
 ghost use Rattle.std.specs.List.{list_all};
-ghost use Rattle.arc_command.specs.Valid.{IsName};
+ghost use Rattle.arc_data.specs.Valid.{IsName};
 ghost use Rattle.arc_script.specs.Words.{is_number, number_up_to, long_number, endpoint_of, name_of, state_of};
 ghost use Rattle.arc_script.specs.Reading.{Spells};
 

@@ -1,6 +1,6 @@
 //! Managed resources with the zones in autoshift, and the customer's zonal shifts.
 //!
-//! It stands on `arc_command` for the words and on `arc_plain` for what each call does. `arc_precedence` and `arc_state`
+//! It stands on `arc_data` for the words and on `arc_plain` for what each call does. `arc_precedence` and `arc_state`
 //! stand on it. It knows no protocol and no clock: the moment is handed in.
 //!
 //! The law that it keeps: at most one shift of a resource is active at a moment that isn't before the start of any kept
@@ -14,7 +14,7 @@ mod progress;
 mod resources;
 mod shifts;
 
-pub use arc_command::{Shift, Status};
+pub use arc_data::{Shift, Status};
 pub use progress::status;
 pub use resources::Resources;
 pub use shifts::Shifts;

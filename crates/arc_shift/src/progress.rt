@@ -2,7 +2,7 @@
 ghost use Rattle.std.specs.Prelude.{◌≡◌};
 ghost use Rattle.arc_plain.specs.Shifts.{is_active, status_at};
 
-use arc_command::{Shift, Status};
+use arc_data::{Shift, Status};
 
 /// What became of a shift: it was cancelled before its time was over, or is active until then.
 pub fn status(shift: &Shift, now: u64) -> Status

@@ -1,13 +1,13 @@
 //! The customer's shifts, which contracts see as their list.
 ghost use Rattle.std.specs.Prelude.{◌≡◌, ◌≤◌, ◌<◌, ◌==◌, ⊤, [], true, All, IfOk, IfErr, IsSome, ◌&&◌, Err, Some, is_some, position, option_map, slice_index_or};
 ghost use Rattle.std.specs.List.{list_any};
-ghost use Rattle.arc_command.specs.declared.shift.Shift.{Shift as PlainShift};
+ghost use Rattle.arc_data.specs.declared.shift.Shift.{Shift as PlainShift};
 ghost use Rattle.arc_plain.specs.Part.{Does};
 ghost use Rattle.arc_plain.specs.Shifts.{AreAlone, AreInOrder, AreKeptShifts, HaveStarted, active_of, canceled, changed, is_active, minutes_ms, renewed, shift_of, started, status_at, updated, without_shift};
 
 use crate::progress::{is_active, status};
 use arc_bytes::Memory;
-use arc_command::{
+use arc_data::{
     Kind, MAX_MS, Named, PartEnd, Refusal, ResourceId, Shift, ShiftId, Status, Text, ZoneName,
 };
 use std::alloc::Global;
@@ -24,7 +24,7 @@ pub struct Shifts {
 
 impl Model for Shifts {
     ghost use Rattle.std.specs.Prelude.{List};
-    ghost use Rattle.arc_command.specs.declared.shift.Shift.{Shift as PlainShift};
+    ghost use Rattle.arc_data.specs.declared.shift.Shift.{Shift as PlainShift};
     ghost use Rattle.arc_plain.specs.Shifts.{AreKeptShifts};
 
     ghost Value = { List PlainShift };

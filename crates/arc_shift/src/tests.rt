@@ -2,7 +2,7 @@ ghost use Rattle.std.specs.Prelude.{◌<◌, ◌↔◌, All, IsTrue};
 ghost use Rattle.arc_plain.specs.Shifts.{HaveStarted};
 
 use super::*;
-use arc_command::{List, MAX_MS, PartEnd, ResourceId, ShiftId, Text, ZoneName};
+use arc_data::{List, MAX_MS, PartEnd, ResourceId, ShiftId, Text, ZoneName};
 use std::alloc::Global;
 use std::test::Fail;
 

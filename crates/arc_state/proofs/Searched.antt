@@ -9,7 +9,7 @@ use Rattle.std.proofs.lemmas.Bool.{cases_lt, cases_eq, eq-eqb, eqb-true}
 use Rattle.std.proofs.lemmas.Bool.Decides.{nat_tests}
 use Rattle.std.proofs.lemmas.Cmp.{ranked}
 use Rattle.std.proofs.lemmas.List.Sums.{position_or_len_is}
-use Rattle.arc_command.specs.declared.reply.ControlItem.{ControlItem}
+use Rattle.arc_data.specs.declared.reply.ControlItem.{ControlItem}
 use Rattle.arc_plain.specs.Laws.{AreAscending}
 
 -- the order of two numbers in a number rises with the first

@@ -4,8 +4,8 @@ use Rattle.std.proofs.lemmas.List.{same_lists, get_or-map, get_or_default, drop_
 use Rattle.std.proofs.lemmas.Grind.{get_or-set_at}
 use Rattle.std.proofs.lemmas.List.Quantifiers.{position-Some}
 use Rattle.std.proofs.lemmas.Bool.{cases_eq, cases_lt, eq-eqb, eqb-true}
-use Rattle.arc_command.specs.declared.command.Entry.{Entry}
-use Rattle.arc_command.specs.declared.reply.ControlItem.{ControlItem}
+use Rattle.arc_data.specs.declared.batch.Entry.{Entry}
+use Rattle.arc_data.specs.declared.reply.ControlItem.{ControlItem}
 use Rattle.arc_plain.specs.Controls.{set_by, with_set}
 use Rattle.arc_plain.specs.Laws.{AreAscending}
 use Rattle.arc_plain.proofs.Sets.{drawn_after_sets, length_after_sets}

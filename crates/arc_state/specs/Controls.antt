@@ -1,7 +1,7 @@
 -- What an operation does to the controls that are kept.
 use Rattle.std.specs.Prelude.{ℕ, ◌≡◌, List}
-use Rattle.arc_command.specs.declared.reply.ControlItem.{ControlItem}
-use Rattle.arc_command.specs.declared.reply.Reply.{Reply}
+use Rattle.arc_data.specs.declared.reply.ControlItem.{ControlItem}
+use Rattle.arc_data.specs.declared.reply.Reply.{Reply}
 use Rattle.arc_plain.specs.State.{Plain}
 use Rattle.arc_plain.specs.Controls.{Effect}
 use Rattle.arc_plain.specs.Cluster.{left_by, reply_of}

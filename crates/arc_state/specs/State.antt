@@ -1,7 +1,7 @@
 -- What a kept state stands for.
 use Rattle.std.specs.Prelude.{ℕ, ◌≡◌}
-use Rattle.arc_command.specs.declared.command.Command.{Command}
-use Rattle.arc_command.specs.declared.reply.Reply.{Reply}
+use Rattle.arc_data.specs.declared.command.Command.{Command}
+use Rattle.arc_data.specs.declared.reply.Reply.{Reply}
 use Rattle.arc_plain.specs.State.{Plain}
 use Rattle.arc_plain.specs.Cluster.{answer, next}
 use Rattle.arc_state.specs.declared.state.State.{State}

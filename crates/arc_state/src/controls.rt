@@ -7,7 +7,7 @@ ghost use Rattle.arc_state.specs.Controls.{AreKept, HasEffect};
 
 use crate::lookup::{control_of, holder_of, place_of};
 use arc_bytes::Memory;
-use arc_command::{
+use arc_data::{
     Batch, Body, ControlId, ControlItem, Entry, Named, Op, PanelId, Refusal, Reply, Text,
 };
 use std::alloc::Global;

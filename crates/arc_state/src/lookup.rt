@@ -4,7 +4,7 @@ ghost use Rattle.std.specs.Str.{bytes_eq};
 ghost use Rattle.arc_plain.specs.Laws.{AreAscending};
 ghost use Rattle.std.specs.Option.{option_copied};
 
-use arc_command::{ControlId, ControlItem, PanelId, Text};
+use arc_data::{ControlId, ControlItem, PanelId, Text};
 
 /// The place of the control with this identifier.
 pub(crate) fn place_of(controls: &[ControlItem], id: ControlId) -> Option<usize>

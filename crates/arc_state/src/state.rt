@@ -1,12 +1,12 @@
 //! The state, which contracts see as the plain one.
 ghost use Rattle.std.specs.Prelude.{◌-◌, ◌<◌, ◌≡◌, ◌^◌, IfOk, OnErr};
-ghost use Rattle.arc_command.specs.Valid.{IsValid};
+ghost use Rattle.arc_data.specs.Valid.{IsValid};
 ghost use Rattle.arc_plain.specs.State.{fresh as fresh_state};
 ghost use Rattle.arc_state.specs.State.{Applies, StandsFor, count_of, time_of};
 
 use crate::controls::perform;
 use arc_bytes::Memory;
-use arc_command::{Command, ControlItem, Refusal, Reply};
+use arc_data::{Command, ControlItem, Refusal, Reply};
 use std::alloc::Global;
 use std::marker::Model;
 

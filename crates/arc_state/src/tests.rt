@@ -1,5 +1,5 @@
 use super::*;
-use arc_command::{
+use arc_data::{
     Batch, Body, Command, CommandId, ControlId, Entry, List, Op, PanelId, Refusal, Reply, RuleId,
     Text, is_valid,
 };

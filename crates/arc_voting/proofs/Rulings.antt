@@ -2,9 +2,9 @@
 use Rattle.std.proofs.Common.{◌≡◌, ◌≢◌, ℕ, ◌%◌, ◌<◌, ◌↔◌, Bool, true, IsTrue, Option, Some, None, IfSome, MatchOption, List, length, get_or, subst, sym, arith, refl}
 use Rattle.std.specs.List.{slice_get}
 use Rattle.std.proofs.lemmas.Option.{slice_get_read}
-use Rattle.arc_command.specs.declared.command.Command.{Command}
-use Rattle.arc_command.specs.declared.record.Record.{Record}
-use Rattle.arc_command.specs.declared.record.Record.TheVariants.{Opened, Promised, Voted, Closed}
+use Rattle.arc_data.specs.declared.command.Command.{Command}
+use Rattle.arc_data.specs.declared.record.Record.{Record}
+use Rattle.arc_data.specs.declared.record.Record.TheVariants.{Opened, Promised, Voted, Closed}
 use Rattle.arc_voting.specs.declared.breach.Breach.{Breach}
 use Rattle.arc_voting.specs.declared.rule.Rule.{Rule}
 use Rattle.arc_voting.specs.declared.rule.Rule.TheVariants.{V1, V2, V3, V4, V5, V6}

@@ -3,9 +3,9 @@ use Rattle.std.proofs.Common.{◌≡◌, ℕ, ◌-◌, ◌<◌, ◌≤◌, ◌�
 use Rattle.std.specs.List.{fold, Contains}
 use Rattle.std.proofs.lemmas.Bool.Decides.{nat_tests}
 use Rattle.std.proofs.lemmas.Bool.{leb-true, cases_lt}
-use Rattle.arc_command.specs.declared.command.Command.{Command}
-use Rattle.arc_command.specs.declared.record.Record.{Record}
-use Rattle.arc_command.specs.declared.record.Record.TheVariants.{Opened, Promised, Voted, Closed}
+use Rattle.arc_data.specs.declared.command.Command.{Command}
+use Rattle.arc_data.specs.declared.record.Record.{Record}
+use Rattle.arc_data.specs.declared.record.Record.TheVariants.{Opened, Promised, Voted, Closed}
 use Rattle.arc_voting.specs.declared.slot.Part.{Part}
 use Rattle.arc_voting.specs.Chosen.{HoldsVote}
 use Rattle.arc_voting.specs.Settled.{HasPromisedAbove, Settles}

@@ -4,9 +4,9 @@ use Rattle.std.specs.List.{Contains, All, Any, slice_get}
 use Rattle.std.proofs.lemmas.List.{get_or-take, length-take-le}
 use Rattle.std.proofs.lemmas.List.Elements.{All-contains, Contains-get_or}
 use Rattle.std.proofs.lemmas.Option.{slice_get_read}
-use Rattle.arc_command.specs.declared.command.Command.{Command}
-use Rattle.arc_command.specs.declared.record.Record.{Record}
-use Rattle.arc_command.specs.declared.record.Record.TheVariants.{Opened, Promised, Voted, Closed}
+use Rattle.arc_data.specs.declared.command.Command.{Command}
+use Rattle.arc_data.specs.declared.record.Record.{Record}
+use Rattle.arc_data.specs.declared.record.Record.TheVariants.{Opened, Promised, Voted, Closed}
 use Rattle.arc_voting.specs.Chosen.{OnVote, IsVoteWith, HoldsVote}
 
 -- what holds of each vote holds of a vote that stands there

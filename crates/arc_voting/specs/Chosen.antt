@@ -1,8 +1,8 @@
 -- Votes, and what they choose.
 use Rattle.std.specs.Prelude.{ℕ, ⊤, List, Contains}
-use Rattle.arc_command.specs.declared.command.Command.{Command}
-use Rattle.arc_command.specs.declared.record.Record.{Record}
-use Rattle.arc_command.specs.declared.record.Record.TheVariants.{Opened, Promised, Voted, Closed}
+use Rattle.arc_data.specs.declared.command.Command.{Command}
+use Rattle.arc_data.specs.declared.record.Record.{Record}
+use Rattle.arc_data.specs.declared.record.Record.TheVariants.{Opened, Promised, Voted, Closed}
 use Rattle.arc_voting.specs.Journals.{Journals, ByThree}
 
 -- A fact of an entry that is a vote; of any other entry it asks nothing.

@@ -4,8 +4,8 @@ use Rattle.std.specs.List.{fold}
 use Rattle.std.specs.Global.{Vec}
 use Rattle.arc_bytes.specs.Five.{at}
 use Rattle.arc_bytes.specs.declared.five.Five.{Five}
-use Rattle.arc_command.specs.declared.record.Record.{Record}
-use Rattle.arc_command.specs.declared.record.Record.TheVariants.{Opened, Promised, Voted, Closed}
+use Rattle.arc_data.specs.declared.record.Record.{Record}
+use Rattle.arc_data.specs.declared.record.Record.TheVariants.{Opened, Promised, Voted, Closed}
 
 -- The journal of each node. Nodes are 0 to 4, and nothing is said of other numbers.
 abbrev pub Journals : Type 0

@@ -1,11 +1,11 @@
 -- Mail that keeps sound journals sound, whoever handles how much of it.
 use Rattle.std.specs.Prelude.{ℕ, ◌≡◌, ◌≢◌, ◌<◌, ◌≤◌, ◌+◌, ◌*◌, ◌%◌, ◌⊎◌, ⊤, List, [], ◌∷◌, Contains}
 use Rattle.arc_voting.specs.Votes.{promise}
-use Rattle.arc_command.specs.declared.command.Command.{Command}
-use Rattle.arc_command.specs.declared.message.Message.{Message}
-use Rattle.arc_command.specs.declared.message.Message.TheVariants.{Status, Prepare, Accept, Learn}
-use Rattle.arc_command.specs.declared.record.Record.{Record}
-use Rattle.arc_command.specs.declared.record.Record.TheVariants.{Voted}
+use Rattle.arc_data.specs.declared.command.Command.{Command}
+use Rattle.arc_data.specs.declared.message.Message.{Message}
+use Rattle.arc_data.specs.declared.message.Message.TheVariants.{Status, Prepare, Accept, Learn}
+use Rattle.arc_data.specs.declared.record.Record.{Record}
+use Rattle.arc_data.specs.declared.record.Record.TheVariants.{Voted}
 use Rattle.arc_voting.specs.Journals.{Journals, promises_of, with_entry, last_inc, since_opened}
 use Rattle.arc_voting.specs.Chosen.{HoldsVote, IsChosen}
 use Rattle.arc_voting.specs.Sound.{IsSound}

@@ -1,9 +1,9 @@
 -- The lists of commands that nodes have applied.
 use Rattle.std.specs.Prelude.{Option, Some, None, List, if◌then◌else◌, nat_lt, length}
 use Rattle.std.specs.List.{filter_map}
-use Rattle.arc_command.specs.declared.command.Command.{Command}
-use Rattle.arc_command.specs.declared.record.Record.{Record}
-use Rattle.arc_command.specs.declared.record.Record.TheVariants.{Opened, Promised, Voted, Closed}
+use Rattle.arc_data.specs.declared.command.Command.{Command}
+use Rattle.arc_data.specs.declared.record.Record.{Record}
+use Rattle.arc_data.specs.declared.record.Record.TheVariants.{Opened, Promised, Voted, Closed}
 use Rattle.arc_voting.specs.Journals.{Journals}
 
 -- The command that this entry closes a slot with.

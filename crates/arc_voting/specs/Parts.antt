@@ -1,8 +1,8 @@
 -- The part of each journal in which the votes at one slot stand.
 use Rattle.std.specs.Prelude.{ℕ, ◌<◌, ◌≤◌, ◌-◌, ◌≡◌, ◌↔◌, List, All, Any, length, take, drop}
 use Rattle.arc_bytes.specs.Five.{at}
-use Rattle.arc_command.specs.declared.command.Command.{Command}
-use Rattle.arc_command.specs.declared.record.Record.{Record}
+use Rattle.arc_data.specs.declared.command.Command.{Command}
+use Rattle.arc_data.specs.declared.record.Record.{Record}
 use Rattle.arc_voting.specs.declared.slot.Part.{Part}
 use Rattle.arc_voting.specs.declared.slot.Slot.{Slot}
 use Rattle.arc_voting.specs.Journals.{Journals}

@@ -1,8 +1,8 @@
 -- When a ballot can choose no other command any more.
 use Rattle.std.specs.Prelude.{ℕ, ◌<◌, ◌≤◌, ◌⊎◌, List, Contains}
-use Rattle.arc_command.specs.declared.command.Command.{Command}
-use Rattle.arc_command.specs.declared.record.Record.{Record}
-use Rattle.arc_command.specs.declared.record.Record.TheVariants.{Promised}
+use Rattle.arc_data.specs.declared.command.Command.{Command}
+use Rattle.arc_data.specs.declared.record.Record.{Record}
+use Rattle.arc_data.specs.declared.record.Record.TheVariants.{Promised}
 use Rattle.arc_voting.specs.Journals.{Journals, ByThree}
 use Rattle.arc_voting.specs.Chosen.{HoldsVote}
 

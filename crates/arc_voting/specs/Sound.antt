@@ -1,9 +1,9 @@
 -- Sound journals: six rules, each a fact of one entry, and the first breach of them.
 use Rattle.std.specs.Prelude.{ℕ, ◌≡◌, ◌<◌, ◌%◌, ◌⊎◌, ⊤, MatchOption, IfSome, List, take}
 use Rattle.std.specs.List.{slice_get}
-use Rattle.arc_command.specs.declared.command.Command.{Command}
-use Rattle.arc_command.specs.declared.record.Record.{Record}
-use Rattle.arc_command.specs.declared.record.Record.TheVariants.{Opened, Promised, Voted, Closed}
+use Rattle.arc_data.specs.declared.command.Command.{Command}
+use Rattle.arc_data.specs.declared.record.Record.{Record}
+use Rattle.arc_data.specs.declared.record.Record.TheVariants.{Opened, Promised, Voted, Closed}
 use Rattle.arc_voting.specs.declared.breach.Breach.{Breach}
 use Rattle.arc_voting.specs.declared.breach.AuditEnd.{AuditEnd}
 use Rattle.arc_voting.specs.declared.breach.AuditEnd.TheVariants as end

@@ -3,7 +3,7 @@ use Rattle.std.specs.Prelude.{ℕ, ◌≡◌, ◌<◌, ◌≤◌, Some, List, le
 use Rattle.std.specs.List.{slice_get}
 use Rattle.arc_bytes.specs.Five.{at}
 use Rattle.arc_bytes.specs.declared.five.Five.{Five}
-use Rattle.arc_command.specs.declared.record.Record.{Record}
+use Rattle.arc_data.specs.declared.record.Record.{Record}
 use Rattle.arc_voting.specs.declared.slot.Part.{Part}
 use Rattle.arc_voting.specs.declared.track.Track.{Track}
 use Rattle.arc_voting.specs.Journals.{Journals}

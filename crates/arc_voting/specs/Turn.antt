@@ -2,13 +2,13 @@
 use Rattle.std.specs.Prelude.{ℕ, ◌≡◌, ◌+◌, ◌↔◌, Bool, IsTrue, if◌then◌else◌, nat_lt, nat_le, Option, Some, None, List}
 use Rattle.std.specs.List.{slice_get}
 use Rattle.arc_voting.specs.Votes.{closed_len, promise, top_vote}
-use Rattle.arc_command.specs.declared.command.Command.{Command}
-use Rattle.arc_command.specs.declared.message.Message.{Message}
-use Rattle.arc_command.specs.declared.message.Message.TheVariants.{Status, Prepare, Accept, Learn}
-use Rattle.arc_command.specs.declared.message.Answer.{Answer}
-use Rattle.arc_command.specs.declared.message.Answer.TheVariants.{At, Known, Behind, Refused, Promise, Accepted, Learned}
-use Rattle.arc_command.specs.declared.record.Record.{Record}
-use Rattle.arc_command.specs.declared.record.Record.TheVariants.{Promised, Voted, Closed}
+use Rattle.arc_data.specs.declared.command.Command.{Command}
+use Rattle.arc_data.specs.declared.message.Message.{Message}
+use Rattle.arc_data.specs.declared.message.Message.TheVariants.{Status, Prepare, Accept, Learn}
+use Rattle.arc_data.specs.declared.message.Answer.{Answer}
+use Rattle.arc_data.specs.declared.message.Answer.TheVariants.{At, Known, Behind, Refused, Promise, Accepted, Learned}
+use Rattle.arc_data.specs.declared.record.Record.{Record}
+use Rattle.arc_data.specs.declared.record.Record.TheVariants.{Promised, Voted, Closed}
 use Rattle.arc_voting.specs.Chosen.{HoldsVote}
 use Rattle.arc_voting.specs.Lists.{applied}
 

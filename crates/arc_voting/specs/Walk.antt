@@ -1,9 +1,9 @@
 -- What a walk along a journal knows.
 use Rattle.std.specs.Prelude.{ℕ, ◌≡◌, ◌<◌, ◌≤◌, ◌+◌, ◌^◌, ◌⊎◌, Option, Some, MatchOption, List, Contains, length, take, IfSome}
 use Rattle.std.specs.List.{slice_get}
-use Rattle.arc_command.specs.declared.command.Command.{Command}
-use Rattle.arc_command.specs.declared.record.Record.{Record}
-use Rattle.arc_command.specs.declared.record.Record.TheVariants.{Promised, Voted}
+use Rattle.arc_data.specs.declared.command.Command.{Command}
+use Rattle.arc_data.specs.declared.record.Record.{Record}
+use Rattle.arc_data.specs.declared.record.Record.TheVariants.{Promised, Voted}
 use Rattle.arc_voting.specs.declared.formed.Seen.{Seen}
 use Rattle.arc_voting.specs.declared.breach.Breach.{Breach}
 use Rattle.arc_voting.specs.declared.rule.Rule.{Rule}

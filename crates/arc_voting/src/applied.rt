@@ -4,7 +4,7 @@ ghost use Rattle.std.specs.List.{slice_get};
 ghost use Rattle.std.specs.Option.{option_copied};
 ghost use Rattle.arc_voting.specs.Lists.{applied, closed_by};
 
-use arc_command::{Command, Record};
+use arc_data::{Command, Record};
 
 /// The command that this entry closes a slot with.
 fn closed_command(entry: &Record) -> Option<&Command>

@@ -14,7 +14,7 @@ use crate::slot::node_voted;
 use crate::track::{Track, slot_at, tracks_of};
 use crate::{AuditEnd, Breach, Rule};
 use arc_bytes::Five;
-use arc_command::{Command, Record};
+use arc_data::{Command, Record};
 use std::alloc::{AllocError, Global};
 
 /// Whether this vote, at this node and place, keeps the rule.

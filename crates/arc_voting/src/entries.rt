@@ -5,7 +5,7 @@ ghost use Rattle.arc_voting.specs.Formed.{IsOneCommand};
 ghost use Rattle.arc_voting.specs.Ids.{VotesFor, HasNoDouble};
 ghost use Rattle.arc_voting.specs.Parts.{VotesAt};
 
-use arc_command::{Command, Equals, Record};
+use arc_data::{Command, Equals, Record};
 
 /// Whether this entry is that vote.
 fn is_vote(entry: &Record, slot: u32, ballot: u64, command: &Command) -> bool

@@ -9,7 +9,7 @@ ghost use Rattle.arc_voting.specs.Walk.{Describes, IsFirstIn, HaveRoom, IsFitBeh
 
 use crate::entries::is_one_command;
 use arc_bytes::Five;
-use arc_command::{Command, Record};
+use arc_data::{Command, Record};
 
 /// What the entries of a journal so far say of the next one.
 #[derive(Clone, Copy, Debug, Drop)]

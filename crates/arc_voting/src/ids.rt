@@ -1,6 +1,6 @@
 //! What the identifiers of commands promise. These bodies walk whole journals.
 ghost use Rattle.std.specs.Prelude.{◌≡◌, ◌↔◌, ◌<◌, ◌≤◌, ℕ, IsTrue, length};
-ghost use Rattle.arc_command.specs.declared.command.Command.{Command};
+ghost use Rattle.arc_data.specs.declared.command.Command.{Command};
 ghost use Rattle.arc_voting.specs.Journals.{journals_of};
 ghost use Rattle.arc_voting.specs.Ids.{VotesFor, VotesSince, StartsAtItsNode, HasNoDouble, HasNoEarlierDouble, IsNotChosenBelow};
 ghost use Rattle.arc_voting.specs.Tracks.{AreTracksOf};
@@ -10,7 +10,7 @@ use crate::entries::{has_no_double, votes_for};
 use crate::majority::{each_of_five, is_voted_by_three};
 use crate::track::{Track, slot_at};
 use arc_bytes::Five;
-use arc_command::{Command, Equals, Record};
+use arc_data::{Command, Equals, Record};
 
 /// Whether the journal holds the start with this number and, after it, a vote for the command.
 fn votes_since(journal: &[Record], inc: u32, command: &Command) -> bool

@@ -15,7 +15,7 @@
 //! `specs/` says the rules as facts of one entry (`Formed`, `Settled`, `Ids`, `Sound`), the table of what a node appends
 //! and answers (`Turn`), and which mail may be sent (`Lawful`).
 //!
-//! It stands on `arc_command` for entries and on `arc_bytes` for five values. It knows no disk, no message's way and no
+//! It stands on `arc_data` for entries and on `arc_bytes` for five values. It knows no disk, no message's way and no
 //! rule of routing controls.
 //!
 //! What the caller owes: a journal has fewer than 2^32 entries.

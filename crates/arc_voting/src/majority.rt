@@ -1,7 +1,7 @@
 //! Three of five nodes, and what they choose.
 ghost use Rattle.std.specs.Prelude.{◌≡◌, ◌↔◌, ◌<◌, ℕ, IsTrue};
 ghost use Rattle.arc_bytes.specs.Five.{at};
-ghost use Rattle.arc_command.specs.declared.command.Command.{Command};
+ghost use Rattle.arc_data.specs.declared.command.Command.{Command};
 ghost use Rattle.arc_voting.specs.Journals.{journals_of, ByThree};
 ghost use Rattle.arc_voting.specs.Chosen.{HoldsVote, IsVoteWith, IsVotedByThree, IsChosen};
 ghost use Rattle.arc_voting.specs.Settled.{IsSettled};
@@ -9,7 +9,7 @@ ghost use Rattle.arc_voting.specs.Parts.{Shows, part_of, ChoosesAmong, OfEach, O
 
 use crate::slot::{Slot, entries_of, node_settles, node_voted, whole_slot};
 use arc_bytes::Five;
-use arc_command::{Command, Record};
+use arc_data::{Command, Record};
 
 /// Whether it holds of at least three nodes.
 fn by_three(holds: &Five<bool>) -> bool

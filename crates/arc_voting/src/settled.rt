@@ -3,7 +3,7 @@
 //! Not every ballot below a vote's need be looked at: it is enough to look at those at which some journal votes at the
 //! slot, and at the greatest one at which none does, since a promise above that one is above every smaller one.
 ghost use Rattle.std.specs.Prelude.{◌≡◌, ◌↔◌, ◌<◌, ◌≤◌, ◌-◌, ℕ, IsTrue};
-ghost use Rattle.arc_command.specs.declared.command.Command.{Command};
+ghost use Rattle.arc_data.specs.declared.command.Command.{Command};
 ghost use Rattle.arc_bytes.specs.Five.{at};
 ghost use Rattle.arc_voting.specs.Journals.{journals_of};
 ghost use Rattle.arc_voting.specs.Settled.{IsSettled, LowerAreSettled};
@@ -12,7 +12,7 @@ ghost use Rattle.arc_voting.specs.Parts.{Shows, VotesAt, part_of, SomeVotesAt, N
 use crate::majority::{each_of_five, is_settled, some_of_five};
 use crate::slot::{Slot, entries_of, node_voted_at};
 use arc_bytes::Five;
-use arc_command::{Command, Record};
+use arc_data::{Command, Record};
 
 /// Whether this entry is no vote at the slot, below the ballot, that isn't settled for the command.
 #[tactic(auto, unfolding(crate::specs::Parts::IsSettledBelow))]

@@ -8,7 +8,7 @@ ghost use Rattle.arc_voting.specs.Parts.{VotesAt, part_of, Shows, ShowsPart};
 
 use crate::entries::{has_vote_at, holds_vote};
 use arc_bytes::Five;
-use arc_command::{Command, Record};
+use arc_data::{Command, Record};
 
 /// What a journal says of one slot.
 #[derive(Clone, Copy, Debug, Drop)]

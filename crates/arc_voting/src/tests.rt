@@ -5,7 +5,7 @@ ghost use Rattle.arc_voting.specs.Walk.{HaveRoom};
 
 use crate::{AuditEnd, applied_at, audit, chosen};
 use arc_bytes::Five;
-use arc_command::{Command, CommandId, ControlId, Op, Record};
+use arc_data::{Command, CommandId, ControlId, Op, Record};
 use std::alloc::{AllocError, Global};
 use std::test::Fail;
 

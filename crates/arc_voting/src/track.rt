@@ -4,11 +4,11 @@ ghost use Rattle.arc_bytes.specs.Five.{at};
 ghost use Rattle.arc_voting.specs.Journals.{journals_of};
 ghost use Rattle.arc_voting.specs.Parts.{Shows};
 ghost use Rattle.arc_voting.specs.Tracks.{IsWellFormedWhole, AreWellFormed, IsTrackOf, AreTracksOf, ShowsOf};
-ghost use Rattle.arc_command.specs.declared.record.Record.{Record};
+ghost use Rattle.arc_data.specs.declared.record.Record.{Record};
 
 use crate::slot::{Part, Slot};
 use arc_bytes::Five;
-use arc_command::Record;
+use arc_data::Record;
 use std::alloc::{AllocError, Global};
 
 /// Where the votes of each slot stand in a journal.

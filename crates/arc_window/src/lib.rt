@@ -1,6 +1,6 @@
 //! Times at which practice runs may not start: blocked dates and weekly windows.
 //!
-//! It stands on `jiff` for the calendar, and on nothing of ours. `arc_command` stands on it for the windows that a
+//! It stands on `jiff` for the calendar, and on nothing of ours. `arc_data` stands on it for the windows that a
 //! command holds, and `arc_practice` asks it before a run starts.
 //!
 //! The law that it keeps: a date and a window have one spelling, and whatever is spelled otherwise is refused. The

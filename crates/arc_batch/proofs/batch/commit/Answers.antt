@@ -1,7 +1,7 @@
 use Rattle.std.proofs.Common.{◌≡◌, ◌<◌, Bool, length, sym, ap, ◌∙◌, arith}
 use Rattle.std.proofs.lemmas.Bool.Decides.{nat_tests}
 use Rattle.arc_ids.specs.declared.named_id.ControlId.{ControlId}
-use Rattle.arc_command.specs.States.{is_on}
+use Rattle.arc_data.specs.States.{is_on}
 use Rattle.arc_plain.specs.Panels.{on_of}
 use Rattle.arc_plain.specs.Rules.{changed_by, forbidding}
 use Rattle.arc_batch.specs.Known.{is_unknown}

@@ -1,5 +1,5 @@
 use Rattle.std.proofs.Common.{◌<◌, length, refl, sym, ◌∙◌, arith}
-use Rattle.arc_command.specs.States.{is_on}
+use Rattle.arc_data.specs.States.{is_on}
 use Rattle.arc_rules.specs.Kept.{forbids_kept}
 use Rattle.arc_plain.proofs.Lists.{filter_map_some, filter_map_none}
 use Rattle.arc_rules.proofs.forbid.forbidding.Goals as goal

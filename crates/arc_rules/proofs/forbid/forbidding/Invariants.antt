@@ -1,6 +1,6 @@
 use Rattle.std.proofs.Common.{◌≡◌, take}
 use Rattle.std.specs.List.{filter_map}
-use Rattle.arc_command.specs.States.{is_on}
+use Rattle.arc_data.specs.States.{is_on}
 use Rattle.arc_rules.specs.Kept.{forbids_kept}
 use Rattle.arc_rules.proofs.forbid.forbidding.Given as goal
 

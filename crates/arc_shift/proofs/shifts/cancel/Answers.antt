@@ -1,5 +1,5 @@
 use Rattle.std.proofs.Common.{Ok, set, sym, ap, ◌∙◌}
-use Rattle.arc_command.specs.declared.shift.Shift.{Shift}
+use Rattle.arc_data.specs.declared.shift.Shift.{Shift}
 use Rattle.arc_plain.specs.Shifts.{canceled, canceled_at}
 use Rattle.arc_plain.proofs.Shifts.{changed_there}
 use Rattle.arc_shift.proofs.shifts.cancel.Goals as goal

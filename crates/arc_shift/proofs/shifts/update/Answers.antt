@@ -1,7 +1,7 @@
 use Rattle.std.proofs.Common.{◌≡◌, ℕ, Ok, Option, List, set, sym, ap, subst, ◌∙◌}
 use Rattle.std.specs.Option.{option_map}
 use Rattle.std.proofs.lemmas.List.Quantifiers.{position-Some}
-use Rattle.arc_command.specs.declared.shift.Shift.{Shift}
+use Rattle.arc_data.specs.declared.shift.Shift.{Shift}
 use Rattle.arc_plain.specs.Shifts.{renewed, updated}
 use Rattle.arc_plain.proofs.Shifts.{IsSameShift, changed_there, kept_after_set, renewed_same}
 use Rattle.arc_shift.proofs.shifts.update.Goals as goal

@@ -1,5 +1,5 @@
 -- No start so far is the one, with a vote for the command behind it.
-use Rattle.arc_command.specs.declared.record.Record.TheVariants.{Opened}
+use Rattle.arc_data.specs.declared.record.Record.TheVariants.{Opened}
 use Rattle.std.proofs.Common.{Some, drop}
 use Rattle.std.proofs.Common.{◌≡◌, ℕ, ◌+◌, ◌<◌}
 use Rattle.std.specs.List.{slice_get}

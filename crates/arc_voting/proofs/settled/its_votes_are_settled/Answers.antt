@@ -1,6 +1,6 @@
 -- The part's entries are those that were looked at.
 use Rattle.std.proofs.Common.{◌↔◌, IsTrue, List, subst}
-use Rattle.arc_command.specs.declared.record.Record.{Record}
+use Rattle.arc_data.specs.declared.record.Record.{Record}
 use Rattle.arc_voting.specs.Journals.{journals_of}
 use Rattle.arc_voting.specs.Parts.{VotedAreSettled}
 use Rattle.arc_voting.proofs.settled.its_votes_are_settled.Goals as goal

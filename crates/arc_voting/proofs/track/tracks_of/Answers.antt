@@ -1,6 +1,6 @@
 -- Each journal is well-formed.
 use Rattle.std.proofs.Common.{List, subst, sym, arith}
-use Rattle.arc_command.specs.declared.record.Record.{Record}
+use Rattle.arc_data.specs.declared.record.Record.{Record}
 use Rattle.arc_voting.specs.Tracks.{IsWellFormedWhole}
 use Rattle.arc_voting.proofs.track.tracks_of.Goals as goal
 

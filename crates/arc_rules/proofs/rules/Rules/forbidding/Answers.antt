@@ -1,7 +1,7 @@
 use Rattle.std.proofs.Common.{ap, ◌∙◌}
 use Rattle.std.specs.List.{filter_map}
 use Rattle.std.proofs.lemmas.Result.{IfOk-weaker}
-use Rattle.arc_command.specs.States.{is_on}
+use Rattle.arc_data.specs.States.{is_on}
 use Rattle.arc_rules.specs.Kept.{forbids_kept}
 use Rattle.arc_rules.specs.declared.rules.Rules.{Rules}
 use Rattle.arc_rules.proofs.Standing.{forbidding_stands}

@@ -1,5 +1,5 @@
 use Rattle.std.proofs.Common.{◌≡◌, ◌<◌, ◌+◌, ◌++◌, ◌∷◌, [], Ok, List, false, length, sym, ap, ◌∙◌, arith}
-use Rattle.arc_command.specs.declared.resource.Resource.{Resource}
+use Rattle.arc_data.specs.declared.resource.Resource.{Resource}
 use Rattle.arc_plain.specs.Resources.{PlainResources, next_resource, registered}
 use Rattle.arc_plain.proofs.Resources.{registers}
 use Rattle.arc_shift.proofs.resources.Resources.register.Goals as goal

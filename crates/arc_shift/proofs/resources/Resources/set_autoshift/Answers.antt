@@ -1,5 +1,5 @@
 use Rattle.std.proofs.Common.{Ok, set, refl, sym, ap, ◌∙◌}
-use Rattle.arc_command.specs.declared.resource.Resource.{Resource}
+use Rattle.arc_data.specs.declared.resource.Resource.{Resource}
 use Rattle.arc_plain.specs.Resources.{PlainResources, autoshift_set, switched}
 use Rattle.arc_plain.proofs.Resources.{none_to_switch, switched_there}
 use Rattle.arc_shift.proofs.resources.Resources.set_autoshift.Goals as goal

@@ -1,6 +1,6 @@
 use Rattle.std.proofs.Common.{◌==◌, not, rules, List, sym, ap, subst, ◌∙◌}
 use Rattle.std.proofs.lemmas.Fn.{filter_same}
-use Rattle.arc_command.specs.declared.shift.Shift.{Shift}
+use Rattle.arc_data.specs.declared.shift.Shift.{Shift}
 use Rattle.arc_plain.specs.Shifts.{AreKeptShifts, without_shift}
 use Rattle.arc_plain.proofs.Shifts.{kept_after_forget}
 use Rattle.arc_shift.proofs.shifts.Shifts.forget.Goals as goal

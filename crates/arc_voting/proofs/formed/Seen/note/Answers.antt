@@ -1,6 +1,6 @@
 -- Each kind of entry changes what it says.
 use Rattle.std.proofs.Common.{sym, subst, ◌+◌}
-use Rattle.arc_command.specs.declared.record.Record.{Record}
+use Rattle.arc_data.specs.declared.record.Record.{Record}
 use Rattle.arc_voting.specs.Formed.{Fits}
 use Rattle.std.proofs.Common.{take}
 use Rattle.arc_voting.proofs.Noted.{IsNext, describes_next, fits_behind, notes_opened, notes_promised, notes_voted, notes_closed}
