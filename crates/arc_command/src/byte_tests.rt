@@ -1,5 +1,5 @@
 use super::*;
-use crate::tests::{command_of, create, update};
+use arc_bytes::Memory;
 use std::alloc::Global;
 use std::test::Fail;
 
@@ -23,6 +23,40 @@ const CREATE: [u8; 17] = [
 const UPDATE: [u8; 28] = [
     7, 0, 0, 0, 0, 0, 0, 0, 5, 1, 0, 2, 0, 0, 0, 0, 0, 0, 0, 7, 0, 0, 0, 0, 0, 0, 0, 7,
 ];
+
+fn create(alloc: Global, name: &str) -> Result<Op, Memory> {
+    Ok(Op::CreateRoutingControl {
+        name: Text::of(alloc, name)?,
+        panel: PanelId(3),
+    })
+}
+
+fn update(alloc: Global, entries: usize, overrides: usize) -> Result<Op, Memory> {
+    let entry = Entry {
+        control: ControlId(5),
+        on: true,
+    };
+    Ok(Op::UpdateRoutingControlState {
+        batch: Batch {
+            entries: List::of(vec![in alloc; entry; entries]?),
+            overrides: List::of(vec![in alloc; RuleId(7); overrides]?),
+        },
+    })
+}
+
+/// A command with this operation.
+fn command_of(op: Op) -> Command {
+    Command {
+        id: CommandId {
+            node: 4,
+            inc: 1,
+            n: 2,
+        },
+        at_ms: MAX_MS,
+        token: 6,
+        op,
+    }
+}
 
 /// A read of a control by node 0.
 fn read_of(control: u64) -> Command {

@@ -13,7 +13,6 @@
 
 mod batch;
 mod command;
-mod copies;
 mod entries;
 mod equality;
 mod list;
@@ -30,6 +29,7 @@ mod rule;
 mod shift;
 mod states;
 mod text;
+mod valid;
 mod zone;
 
 pub use arc_ids::{CommandId, ControlId, PanelId, ResourceId, RuleId, ShiftId};
@@ -50,6 +50,7 @@ pub use rule::{Cause, Forbidden, RuleConfig, RuleItem, RuleKind, RuleSpec};
 pub use shift::{Kind, Outcome, Shift, ShiftItem, Status};
 pub use states::States;
 pub use text::Text;
+pub use valid::is_valid;
 pub use zone::ZoneName;
 
 #[cfg(test)]

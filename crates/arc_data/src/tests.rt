@@ -6,14 +6,14 @@ use std::test::Fail;
 /// 64 bytes.
 const LONGEST_NAME: &str = "0123456789abcdef0123456789abcdef0123456789abcdef0123456789abcdef";
 
-pub(crate) fn create(alloc: Global, name: &str) -> Result<Op, Memory> {
+fn create(alloc: Global, name: &str) -> Result<Op, Memory> {
     Ok(Op::CreateRoutingControl {
         name: Text::of(alloc, name)?,
         panel: PanelId(3),
     })
 }
 
-pub(crate) fn update(alloc: Global, entries: usize, overrides: usize) -> Result<Op, Memory> {
+fn update(alloc: Global, entries: usize, overrides: usize) -> Result<Op, Memory> {
     let entry = Entry {
         control: ControlId(5),
         on: true,
@@ -138,7 +138,7 @@ fn commands_and_entries_equal_themselves_alone(rt: HostRuntime) -> Result<(), Fa
 }
 
 /// A command with this operation.
-pub(crate) fn command_of(op: Op) -> Command {
+fn command_of(op: Op) -> Command {
     Command {
         id: CommandId {
             node: 4,

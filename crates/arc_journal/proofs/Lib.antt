@@ -8,3 +8,4 @@ pub mod Walking
 pub mod Found
 pub mod Standing
 pub mod OpeningLemmas
+pub mod Own

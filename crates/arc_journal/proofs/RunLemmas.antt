@@ -51,6 +51,18 @@ module _ {D : Type 0} (moment faults : D → ℕ) (stops_in : D → Option ℕ) 
     chosen = λ was fails. stop_behind m n (stops_in old) no_stop some (sym first.nearer ∙ second.chosen (first.tame was) fails);
   }
 
+  -- calls that all went well behind such calls
+  pub run_well_behind : (old between new : D) (m n : ℕ) → IsRun moment faults stops_in is_tame old between m false
+      → IsRun moment faults stops_in is_tame between new n false → IsRun moment faults stops_in is_tame old new (m + n) false
+  run_well_behind old between new m n first second = record {
+    later = omega (arith, first.later, second.later);
+    clock = second.clock ∙ ap (λ (t : ℕ). clock_after n t) first.clock ∙ clock_behind m n (moment old);
+    count = subst (λ (f : ℕ). Counted false f (faults new)) first.count.1 second.count;
+    nearer = second.nearer ∙ ap (λ (s : Option ℕ). sooner_by n s) first.nearer ∙ sooner_behind m n (stops_in old);
+    tame = λ was. second.tame (first.tame was);
+    chosen = λ was fails. absurd (cc fails);
+  }
+
   pub no_run : (disk : D) → IsRun moment faults stops_in is_tame disk disk 0 false
   no_run disk = record {
     later = omega arith;

@@ -1,5 +1,5 @@
 -- What the bytes of an image say: its entries, their records, and the first fault.
-use Rattle.std.specs.Prelude.{ℕ, zero, suc, ◌≡◌, ◌≤◌, ◌<◌, ◌+◌, ◌==◌, nat_lt, nat_le, ◌&&◌, ◌||◌, not, Bool, true, false, if◌then◌else◌, List, [], ◌∷◌, ◌++◌, length, take, drop, map, Option, Some, None}
+use Rattle.std.specs.Prelude.{ℕ, zero, suc, ◌≡◌, ◌≤◌, ◌<◌, ◌+◌, ◌==◌, nat_lt, nat_le, nat_eq, ◌&&◌, ◌||◌, not, Bool, true, false, if◌then◌else◌, List, [], ◌∷◌, ◌++◌, length, take, drop, map, Option, Some, None}
 use Rattle.std.specs.Int.{w32, from_be_bytes}
 use Rattle.std.specs.List.{filter_map}
 use Rattle.std.specs.Str.{bytes_eq}
@@ -107,6 +107,12 @@ head_fault node image =
 -- The first fault of an image as a journal of this node.
 unfoldable pub first_fault : ℕ → List ℕ → Option JournalEnd
 first_fault node image = first_of (head_fault node image) (fault_in (slots_in image) 0 (entries_of image))
+
+-- The first fault of an image as a journal of this node and this greatest length of the list: an image that is a journal
+-- of the node, but names another length, is at fault where the head names it.
+abbrev pub own_fault : (node slots : ℕ) → List ℕ → Option JournalEnd
+own_fault node slots image =
+    first_of (first_fault node image) (if nat_eq (slots_in image) slots then None else Some (NotOurs 12))
 
 -- How a reading of these bytes ended has its cause in them, and yields to want of memory alone.
 abbrev pub IsCausedBy : Option JournalEnd → Option JournalEnd → Type 0

@@ -1,17 +1,17 @@
 //! A journal.
-ghost use Rattle.std.specs.Prelude.{◌≡◌, ◌≢◌, ◌≤◌, ◌+◌, ◌<◌, ◌++◌, ◌∷◌, ◌↔◌, ℕ, List, [], true, length, IfOk, IfErr, OnOk, MatchResult, Some, None};
+ghost use Rattle.std.specs.Prelude.{◌≡◌, ◌≢◌, ◌≤◌, ◌+◌, ◌<◌, ◌++◌, ◌∷◌, ◌↔◌, ℕ, List, [], true, length, IfOk, IfErr, OnOk, OnErr, MatchResult, Some, None};
 ghost use Rattle.arc_bytes.specs.Counts.{HasRisen};
 ghost use Rattle.arc_disk.specs.Calls.{IsNoCall};
-ghost use Rattle.arc_disk.specs.Disk.{IsUntouched, Keeps, LeavesOnly, Only};
+ghost use Rattle.arc_disk.specs.Disk.{Crashes, Elapses, IsUntouched, Keeps, LeavesOnly, Only};
 ghost use Rattle.arc_data.specs.Valid.{IsValidRecord};
-ghost use Rattle.arc_journal.specs.Image.{IsCausedBy, IsJournalOf, IsNoRefusal, first_fault, is_below, records_of};
-ghost use Rattle.arc_journal.specs.Runs.{OpensInRun};
+ghost use Rattle.arc_journal.specs.Image.{IsCausedBy, IsJournalOf, IsNoRefusal, first_fault, is_below, own_fault, records_of};
+ghost use Rattle.arc_journal.specs.Runs.{OpensInRun, ending_of};
 ghost use Rattle.arc_journal.specs.Layout.{entry_limit, head};
 ghost use Rattle.arc_journal.specs.Journal.{AnswersAppend, AppendsInRun, AppendsOne, IsBeforeOrWith, IsNew, IsOfSame, IsSettled, IsUnchanged, count_of, disk_of, node_of, slots_of};
 
 use crate::bodies::seal;
 use crate::device::{read_image, write_entry, write_synced};
-use crate::reading::{Opening, entry_limit, read_journal, signature};
+use crate::reading::{Opening, entry_limit, read_journal, read_own, signature};
 use crate::{AppendEnd, JournalEnd};
 use arc_bytes::{Memory, put_u32};
 use arc_command::Record;
@@ -127,6 +127,45 @@ impl<D: Disk> Journal<D> {
         Ok((journal, records))
     }
 
+    /// Reads again what is on its own disk, as `adopt` does, and changes nothing of it. A head that names another
+    /// greatest length of the list is refused at its place.
+    pub fn reopen(&mut self, alloc: Global) -> Result<Vec<Record>, JournalEnd>
+        requires { node_of self.old < 5 }
+        ensures settled { OnOk result (IsSettled D.tells D.content D.may_leave self.new) }
+        ensures count { IfOk result (λ r. count_of self.new ≡ length r.items) }
+        ensures records { D.tells → IfOk result (λ r. r.items ≡ records_of (D.content (disk_of self.old))) }
+        ensures caused { D.tells → ending_of result ≢ Some JournalEnd.Disk → IsCausedBy (ending_of result)
+            (own_fault (node_of self.old) (slots_of self.old) (D.content (disk_of self.old))) }
+        ensures found { D.tells → (records : List Record) →
+            IsJournalOf (node_of self.old) (slots_of self.old) records (D.content (disk_of self.old)) →
+            MatchResult result (λ r. r.items ≡ records) IsNoRefusal }
+        ensures fault { IfErr result (λ e. e ≡ JournalEnd.Disk →
+            HasRisen (D.faults (disk_of self.old)) (D.faults (disk_of self.new))) }
+        ensures kept { D.tells → Keeps D.content D.may_leave (disk_of self.old) (disk_of self.new) }
+        ensures any_moment { D.tells → LeavesOnly D.moment D.left_since (disk_of self.old) (disk_of self.new)
+            (D.may_leave (disk_of self.old)) }
+        ensures calls { OpensInRun D.moment D.faults D.stops_in D.is_tame 3
+            (disk_of self.old) (disk_of self.new) (ending_of result) }
+        ensures same { IsOfSame self.old self.new }
+        ensures unchanged { OnErr result (IsUnchanged self.old self.new) }
+    {
+        let image = match read_image(alloc, &mut self.disk) {
+            Ok(image) => image,
+            Err(end) => return Err(end),
+        };
+        let Opening {
+            max_slots: _,
+            records,
+            end: place,
+        } = match read_own(alloc, &image, self.node, self.max_slots) {
+            Ok(opening) => opening,
+            Err(end) => return Err(end),
+        };
+        self.count = records.len() as u32;
+        self.place = place;
+        Ok(records)
+    }
+
     /// Appends a record. After an Ok each crash leaves a journal that has it.
     ///
     /// It writes the entry behind the closed gate, with the closed gate of the next one, syncs, opens the gate, and
@@ -160,6 +199,13 @@ impl<D: Disk> Journal<D> {
         self.count += 1;
         self.place += self.entry.len() as u64;
         Ok(())
+    }
+
+    /// The node whose journal it is.
+    pub fn node(&self) -> u8
+        ensures { result ≡ node_of self.now }
+    {
+        self.node
     }
 
     /// How many entries it has.
@@ -205,6 +251,21 @@ impl<D: Disk> Journal<D> {
             IsSettled D.tells D.content D.may_leave self.new }
     {
         self.disk.arm(calls, fill);
+    }
+
+    /// Crashes the disk. What it then reads as has to be read again.
+    pub fn crash(&mut self)
+    where
+        D: Rig,
+        ensures stop { D.stops_in (disk_of self.new) ≡ None }
+        ensures crashes { D.tells → Crashes D.content D.may_leave (disk_of self.old) (disk_of self.new) }
+        ensures time { D.tells → Elapses D.moment D.may_leave D.left_since
+            (disk_of self.old) (disk_of self.new) }
+        ensures no_call { IsNoCall D.moment D.faults D.is_tame (disk_of self.old) (disk_of self.new) }
+        ensures same { IsOfSame self.old self.new }
+        ensures unchanged { IsUnchanged self.old self.new }
+    {
+        self.disk.crash();
     }
 }
 

@@ -1,6 +1,6 @@
 //! What the bytes of an image say.
 ghost use Rattle.std.specs.Prelude.{◌≡◌, ◌++◌, ◌∷◌, [], ◌+◌, ◌*◌, ◌≤◌, ◌<◌, ℕ, true, false, length, map, take, vec_len, slice_index, ◌≢◌, MatchOption, IfErr, IfOk, OnOk};
-ghost use Rattle.arc_journal.specs.Image.{AreKept, IsCausedBy, IsEntry, IsJournalOf, IsReadTo, body_in, common, entries_of, entry_fault, fault_in, first_fault, head_fault, is_below, is_whole, slots_in};
+ghost use Rattle.arc_journal.specs.Image.{AreKept, IsCausedBy, IsEntry, IsJournalOf, IsReadTo, body_in, common, entries_of, entry_fault, fault_in, first_fault, head_fault, own_fault, is_below, is_whole, slots_in};
 ghost use Rattle.arc_journal.specs.Layout.{entries, entry_limit, head, signature};
 ghost use Rattle.arc_journal.specs.Runs.{ending_of};
 ghost use Rattle.arc_command.specs.Spelling.{record_bytes};
@@ -220,4 +220,26 @@ pub(crate) fn read_journal(alloc: Global, image: &[u8], node: u8) -> Result<Open
         records,
         end: end as u64,
     })
+}
+
+/// Reads an image as a journal of this node and this greatest length of its list.
+pub(crate) fn read_own(
+    alloc: Global,
+    image: &[u8],
+    node: u8,
+    max_slots: u32,
+) -> Result<Opening, JournalEnd>
+    ensures own { IfErr result (λ e. e ≢ JournalEnd.Disk) }
+    ensures fault { IsCausedBy (ending_of result) (own_fault node max_slots image.now) }
+    ensures journal { IfOk result (λ o. IsJournalOf node max_slots o.records.items image.now) }
+    ensures end { IfOk result (λ o. o.end ≡ 16 + length (entries (map record_bytes o.records.items))) }
+{
+    let opening = match read_journal(alloc, image, node) {
+        Ok(opening) => opening,
+        Err(end) => return Err(end),
+    };
+    if opening.max_slots != max_slots {
+        return Err(JournalEnd::NotOurs { place: 12 });
+    }
+    Ok(opening)
 }

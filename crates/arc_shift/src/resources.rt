@@ -6,9 +6,7 @@ ghost use Rattle.arc_plain.specs.Part.{Does};
 ghost use Rattle.arc_plain.specs.Resources.{autoshift_ended, autoshift_set, autoshift_started, item_of, items_of, next_resource, no_resources, registered, resource_of};
 
 use arc_bytes::Memory;
-use arc_data::{
-    List, Named, PartEnd, Refusal, Resource, ResourceId, ResourceItem, Text, ZoneName,
-};
+use arc_data::{List, Named, PartEnd, Refusal, Resource, ResourceId, ResourceItem, Text, ZoneName};
 use std::alloc::Global;
 use std::marker::Model;
 

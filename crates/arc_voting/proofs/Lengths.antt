@@ -10,9 +10,9 @@ use Rattle.arc_data.specs.declared.record.Record.{Record}
 use Rattle.arc_voting.specs.Lists.{applied, closed_by}
 
 -- one entry more
-more : (xs : List Record) (i : ℕ) (x : Record) → i < length xs → x ≡ get_or xs i x →
+pub applied_more : (xs : List Record) (i : ℕ) (x : Record) → i < length xs → x ≡ get_or xs i x →
     applied (take (i + 1) xs) ≡ applied (take i xs) ++ filter_map closed_by (x ∷ [])
-more xs i x lt at =
+applied_more xs i x lt at =
     let e : take (i + 1) xs ≡ take i xs ++ x ∷ [] = rw (add-one, take-suc xs i x lt, ← at) refl in
     ap applied e ∙ filter_map-append closed_by (take i xs) (x ∷ [])
 
@@ -20,7 +20,7 @@ more xs i x lt at =
 pub applied_same : (xs : List Record) (i : ℕ) (x : Record) → i < length xs → x ≡ get_or xs i x → closed_by x ≡ None →
     length (applied (take (i + 1) xs)) ≡ length (applied (take i xs))
 applied_same xs i x lt at none =
-    let e : applied (take (i + 1) xs) ≡ applied (take i xs) ++ filter_map closed_by (x ∷ []) = more xs i x lt at in
+    let e : applied (take (i + 1) xs) ≡ applied (take i xs) ++ filter_map closed_by (x ∷ []) = applied_more xs i x lt at in
     let f : filter_map closed_by (x ∷ []) ≡ [] = rw none refl in
     ap length (e ∙ ap (λ ys. applied (take i xs) ++ ys) f) ∙ length-append (applied (take i xs)) [] ∙ omega arith
 
@@ -28,7 +28,7 @@ applied_same xs i x lt at none =
 pub applied_one : (xs : List Record) (i : ℕ) (x : Record) (c : Command) → i < length xs → x ≡ get_or xs i x → closed_by x ≡ Some c →
     length (applied (take (i + 1) xs)) ≡ length (applied (take i xs)) + 1
 applied_one xs i x c lt at some =
-    let e : applied (take (i + 1) xs) ≡ applied (take i xs) ++ filter_map closed_by (x ∷ []) = more xs i x lt at in
+    let e : applied (take (i + 1) xs) ≡ applied (take i xs) ++ filter_map closed_by (x ∷ []) = applied_more xs i x lt at in
     let f : filter_map closed_by (x ∷ []) ≡ c ∷ [] = rw some refl in
     ap length (e ∙ ap (λ ys. applied (take i xs) ++ ys) f) ∙ length-append (applied (take i xs)) (c ∷ [])
 
@@ -39,7 +39,7 @@ applied_here xs i x c lt at some =
     let front : List Command = applied (take i xs) in
     let rest : List Command = applied (drop (i + 1) xs) in
     let e : applied (take (i + 1) xs) ≡ front ++ c ∷ [] =
-    more xs i x lt at ∙ ap (λ ys. front ++ ys) (let f : filter_map closed_by (x ∷ []) ≡ c ∷ [] = rw some refl in f) in
+    applied_more xs i x lt at ∙ ap (λ ys. front ++ ys) (let f : filter_map closed_by (x ∷ []) ≡ c ∷ [] = rw some refl in f) in
     let whole : applied xs ≡ (front ++ c ∷ []) ++ rest =
     ap applied (sym (take-append-drop (i + 1) xs)) ∙ filter_map-append closed_by (take (i + 1) xs) (drop (i + 1) xs)
     ∙ ap (λ ys. ys ++ rest) e in

@@ -8,3 +8,17 @@ pub mod Rulings
 pub mod Lengths
 pub mod Silent
 pub mod Tracking
+pub mod Promises
+pub mod Meeting
+pub mod Facts
+pub mod Uses
+pub mod Agreeing
+pub mod Growing
+pub mod Added
+pub mod Same
+pub mod Turns
+pub mod Mailed
+pub mod Tops
+pub mod Proposing
+pub mod Known
+pub mod Fronts

@@ -9,7 +9,8 @@ use Rattle.arc_data.specs.declared.command.Command.{Command}
 use Rattle.arc_data.specs.declared.record.Record.{Record}
 use Rattle.arc_data.specs.declared.record.Record.TheVariants.{Opened, Promised, Voted, Closed}
 use Rattle.arc_voting.specs.declared.formed.Seen.{Seen}
-use Rattle.arc_voting.specs.Votes.{is_closed, promise, promise_after}
+use Rattle.arc_data.specs.Entries.{is_closed, promise}
+use Rattle.arc_voting.proofs.Promises.{promise_after, promise_more}
 use Rattle.arc_voting.specs.Journals.{is_opened}
 use Rattle.arc_voting.specs.Chosen.{HoldsVote}
 use Rattle.arc_voting.specs.Formed.{Fits, IsBallot, IsOneCommand, IsPromise, IsVote}
@@ -26,11 +27,6 @@ count_case p xs i x false lt is = let e : count_by p (take (i + 1) xs) ≡ count
 pub count_more : (p : Record → Bool) (xs : List Record) (i : ℕ) (x : Record) → i < length xs → x ≡ get_or xs i x →
     count_by p (take (i + 1) xs) ≡ count_by p (take i xs) + cond (p x) 1 0
 count_more p xs i x lt at = count_case p xs i x (p x) lt (ap p (sym at))
-
--- the promise after one entry more
-pub promise_more : (xs : List Record) (i : ℕ) (x : Record) → i < length xs → x ≡ get_or xs i x →
-    promise (take (i + 1) xs) ≡ promise_after (promise (take i xs)) x
-promise_more xs i x lt at = fold_more promise_after 0 xs i x lt ∙ ap (promise_after (promise (take i xs))) (sym at)
 
 -- a front of at least one entry isn't empty
 pub front_not_empty : (place : ℕ) (xs : List Record) → place < length xs → (place ≡ 0 → ⊥) → take place xs ≢ []
@@ -59,6 +55,7 @@ opened_small (Voted slot ballot c) = omega arith
 opened_small (Closed slot c) = omega arith
 
 closed_small : (entry : Record) → cond (is_closed entry) 1 0 ≤ 1
+unfolding is_closed
 closed_small (Opened inc) = omega arith
 closed_small (Promised from ballot) = omega arith
 closed_small (Voted slot ballot c) = omega arith
@@ -117,6 +114,7 @@ fits_behind promises journal place entry lt at fits =
 
 pub notes_opened : (seen : Seen) (journal : List Record) (place inc : ℕ) → Describes seen journal place →
     IsNext seen (record { opened = seen.opened + 1; closed = seen.closed; promise = seen.promise; start = seen.start }) journal place (Opened inc)
+unfolding is_closed
 notes_opened seen journal place inc known = record {
   opened = refl;
   closed = omega arith;
@@ -132,6 +130,7 @@ notes_opened seen journal place inc known = record {
 pub notes_promised : (seen : Seen) (journal : List Record) (place promises from ballot : ℕ) → Describes seen journal place →
     IsPromise promises (take place journal) from ballot →
     IsNext seen (record { opened = seen.opened; closed = seen.closed; promise = ballot; start = seen.start }) journal place (Promised from ballot)
+unfolding is_closed
 notes_promised seen journal place promises from ballot known fits = record {
   opened = omega arith;
   closed = omega arith;
@@ -146,6 +145,7 @@ notes_promised seen journal place promises from ballot known fits = record {
 
 pub notes_voted : (seen : Seen) (journal : List Record) (place promises slot ballot : ℕ) (c : Command) → Describes seen journal place →
     IsVote promises (take place journal) slot ballot c → IsNext seen seen journal place (Voted slot ballot c)
+unfolding is_closed
 notes_voted seen journal place promises slot ballot c known fits = record {
   opened = omega arith;
   closed = omega arith;
@@ -160,6 +160,7 @@ notes_voted seen journal place promises slot ballot c known fits = record {
 
 pub notes_closed : (seen : Seen) (journal : List Record) (place slot : ℕ) (c : Command) → Describes seen journal place →
     IsNext seen (record { opened = seen.opened; closed = seen.closed + 1; promise = seen.promise; start = place + 1 }) journal place (Closed slot c)
+unfolding is_closed
 notes_closed seen journal place slot c known = record {
   opened = omega arith;
   closed = refl;

@@ -10,7 +10,8 @@ use Rattle.arc_data.specs.declared.record.Record.{Record}
 use Rattle.arc_data.specs.declared.record.Record.TheVariants.{Opened, Promised, Voted, Closed}
 use Rattle.arc_voting.specs.declared.formed.Seen.{Seen}
 use Rattle.arc_voting.specs.declared.slot.Part.{Part}
-use Rattle.arc_voting.specs.Votes.{is_closed, closed_len, promise, promise_after}
+use Rattle.arc_data.specs.Entries.{is_closed, closed_len, promise}
+use Rattle.arc_voting.proofs.Promises.{promise_after, promise_more}
 use Rattle.arc_voting.specs.Chosen.{HoldsVote}
 use Rattle.arc_voting.specs.Settled.{HasPromisedAbove}
 use Rattle.arc_voting.specs.Formed.{Fits, IsPromise, IsVote}
@@ -20,7 +21,7 @@ use Rattle.arc_voting.specs.declared.track.Track.{Track}
 use Rattle.arc_voting.specs.Walk.{Describes}
 use Rattle.arc_voting.proofs.Contained.{contains_take, contains_from, part_is}
 use Rattle.arc_voting.proofs.Walks.{place_in_front}
-use Rattle.arc_voting.proofs.Noted.{describes_next, notes_opened, notes_promised, notes_voted, notes_closed, count_more, promise_more}
+use Rattle.arc_voting.proofs.Noted.{describes_next, notes_opened, notes_promised, notes_voted, notes_closed, count_more}
 
 -- a longer front counts no fewer
 pub front_counts : (p : Record → Bool) (xs : List Record) (k n : ℕ) → k ≤ n → count_by p (take k xs) ≤ count_by p (take n xs)
@@ -101,6 +102,7 @@ pub record IsPlaced (journal : List Record) (slot : ℕ) (part : Part) : Type 0 
 -- a vote at the slot stands in the part
 vote_within : (promises : ℕ) (journal : List Record) (slot ballot : ℕ) (c : Command) (part : Part) → IsWellFormedWhole promises journal →
     IsPlaced journal slot part → HoldsVote journal slot ballot c → HoldsVote (part_of journal part) slot ballot c
+unfolding is_closed
 vote_within promises journal slot ballot c part formed placed (k, lt, at) =
     let here : slice_get journal k ≡ Some (Voted slot ballot c) = slice_get_read journal (length journal) k (Voted slot ballot c) refl lt (sym at) in
     let fits : IsVote promises (take k journal) slot ballot c = fits_at promises journal k (Voted slot ballot c) formed here in
@@ -123,6 +125,7 @@ vote_within promises journal slot ballot c part formed placed (k, lt, at) =
 
 promise_within : (promises : ℕ) (journal : List Record) (slot ballot : ℕ) (part : Part) → IsWellFormedWhole promises journal →
     IsPlaced journal slot part → HasPromisedAbove journal slot ballot → ballot < part.reach
+unfolding is_closed
 promise_within promises journal slot ballot part formed placed (from, higher, (k, lt, at), above, low) =
     let here : slice_get journal k ≡ Some (Promised from higher) = slice_get_read journal (length journal) k (Promised from higher) refl lt (sym at) in
     let fits : IsPromise promises (take k journal) from higher = fits_at promises journal k (Promised from higher) formed here in
@@ -191,6 +194,7 @@ tracked_none journal = record {
 pub tracked_same : (journal : List Record) (place start reach next : ℕ) (parts : List Part) (entry : Record) → place < length journal →
     entry ≡ get_or journal place entry → is_closed entry ≡ false → next ≡ promise_after reach entry →
     IsTracked journal place parts start reach → IsTracked journal (place + 1) parts start next
+unfolding is_closed
 tracked_same journal place start reach next parts entry lt at still step known =
     let more : closed_len (take (place + 1) journal) ≡ closed_len (take place journal) + cond (is_closed entry) 1 0 =
     count_more is_closed journal place entry lt at in
@@ -208,6 +212,7 @@ tracked_same journal place start reach next parts entry lt at still step known =
 closed_placed : (journal : List Record) (place start reach s : ℕ) (c : Command) (parts : List Part) → place < length journal →
     slice_get journal place ≡ Some (Closed s c) → IsTracked journal place parts start reach →
     IsPlaced journal (length parts) (record { start = start; end = place; reach = reach })
+unfolding is_closed
 closed_placed journal place start reach s c parts lt here known =
     let n : length parts ≡ closed_len (take place journal) = known.count in
     let at : Closed s c ≡ get_or journal place (Closed s c) = sym (get_or_from_slice_get journal place (Closed s c) (Closed s c) here) in
@@ -259,6 +264,7 @@ pub tracked_closed : (promises : ℕ) (journal : List Record) (place start reach
     IsWellFormedWhole promises journal → place < length journal →
     slice_get journal place ≡ Some (Closed s c) → IsTracked journal place parts start reach →
     IsTracked journal (place + 1) (parts ++ record { start = start; end = place; reach = reach } ∷ []) (place + 1) reach
+unfolding is_closed
 tracked_closed promises journal place start reach s c parts formed lt here known =
     let part : Part = record { start = start; end = place; reach = reach } in
     let at : Closed s c ≡ get_or journal place (Closed s c) = sym (get_or_from_slice_get journal place (Closed s c) (Closed s c) here) in

@@ -1,6 +1,6 @@
 -- When an entry may stand where it does in its own journal.
 use Rattle.std.specs.Prelude.{ℕ, ◌≡◌, ◌≢◌, ◌<◌, ◌≤◌, ◌+◌, ◌*◌, List, [], All, Contains}
-use Rattle.arc_voting.specs.Votes.{closed_len, promise}
+use Rattle.arc_data.specs.Entries.{closed_len, promise}
 use Rattle.arc_data.specs.declared.command.Command.{Command}
 use Rattle.arc_data.specs.declared.record.Record.{Record}
 use Rattle.arc_data.specs.declared.record.Record.TheVariants.{Opened, Promised, Voted, Closed}

@@ -25,7 +25,7 @@ is_opened (Promised from ballot) = false
 is_opened (Voted slot ballot c) = false
 is_opened (Closed slot c) = false
 
-abbrev pub is_promised : Record → Bool
+unfoldable pub is_promised : Record → Bool
 is_promised (Opened inc) = false
 is_promised (Promised from ballot) = true
 is_promised (Voted slot ballot c) = false

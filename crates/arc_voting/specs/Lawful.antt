@@ -1,6 +1,6 @@
 -- Mail that keeps sound journals sound, whoever handles how much of it.
 use Rattle.std.specs.Prelude.{ℕ, ◌≡◌, ◌≢◌, ◌<◌, ◌≤◌, ◌+◌, ◌*◌, ◌%◌, ◌⊎◌, ⊤, List, [], ◌∷◌, Contains}
-use Rattle.arc_voting.specs.Votes.{promise}
+use Rattle.arc_data.specs.Entries.{promise}
 use Rattle.arc_data.specs.declared.command.Command.{Command}
 use Rattle.arc_data.specs.declared.message.Message.{Message}
 use Rattle.arc_data.specs.declared.message.Message.TheVariants.{Status, Prepare, Accept, Learn}

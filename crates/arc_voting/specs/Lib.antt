@@ -1,4 +1,3 @@
-pub mod Votes
 pub mod Journals
 pub mod Lists
 pub mod Chosen
@@ -10,5 +9,9 @@ pub mod Parts
 pub mod Sound
 pub mod Walk
 pub mod Tracks
+pub mod Index
 pub mod Turn
 pub mod Lawful
+pub mod Laws
+pub mod Handled
+pub mod Proposal

@@ -1,7 +1,7 @@
 -- The table of messages and answers: what a node that keeps these entries appends and answers.
 use Rattle.std.specs.Prelude.{ℕ, ◌≡◌, ◌+◌, ◌↔◌, Bool, IsTrue, if◌then◌else◌, nat_lt, nat_le, Option, Some, None, List}
 use Rattle.std.specs.List.{slice_get}
-use Rattle.arc_voting.specs.Votes.{closed_len, promise, top_vote}
+use Rattle.arc_data.specs.Entries.{closed_len, promise, top_vote}
 use Rattle.arc_data.specs.declared.command.Command.{Command}
 use Rattle.arc_data.specs.declared.message.Message.{Message}
 use Rattle.arc_data.specs.declared.message.Message.TheVariants.{Status, Prepare, Accept, Learn}
@@ -42,7 +42,7 @@ vote_turn stands journal slot ballot c =
 abbrev pub promise_turn : List Record → ℕ → ℕ → Turn
 promise_turn journal slot ballot =
     if nat_le ballot (promise journal) then answers_only (Refused (promise journal))
-    else appends (Promised (closed_len journal) ballot) (Promise slot ballot (top_vote journal slot))
+    else appends (Promised (closed_len journal) ballot) (Promise slot ballot (top_vote slot journal))
 
 -- The table, told whether the vote that an `Accept` asks for stands in the journal already.
 abbrev pub turn_of : Bool → List Record → Message → Turn

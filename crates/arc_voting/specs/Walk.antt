@@ -9,7 +9,7 @@ use Rattle.arc_voting.specs.declared.breach.Breach.{Breach}
 use Rattle.arc_voting.specs.declared.rule.Rule.{Rule}
 use Rattle.arc_voting.specs.Rules.{number_of}
 use Rattle.arc_voting.specs.Sound.{Keeps, StandsBefore}
-use Rattle.arc_voting.specs.Votes.{closed_len, promise}
+use Rattle.arc_data.specs.Entries.{closed_len, promise}
 use Rattle.arc_voting.specs.Journals.{Journals, opened_count}
 use Rattle.arc_voting.specs.Formed.{Fits, IsAbovePromises}
 

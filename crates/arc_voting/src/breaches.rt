@@ -8,6 +8,7 @@ ghost use Rattle.arc_voting.specs.Walk.{IsFirstIn, HaveRoom, IsFirstUnder};
 
 use crate::formed::{count_promises, first_unfit};
 use crate::ids::{has_no_earlier_double, is_not_chosen_below, starts_at_its_node};
+use crate::index::are_indexed;
 use crate::majority::is_chosen;
 use crate::settled::lower_are_settled;
 use crate::slot::node_voted;
@@ -138,8 +139,31 @@ fn breach(rule: Rule, node: u8, place: usize) -> Breach
     }
 }
 
+/// The first breach of a rule on identifiers. Where it is known to be kept nothing is looked at.
+fn first_id_breach(
+    journals: &Five<Vec<Record>>,
+    tracks: &Five<Track>,
+    rule: Rule,
+    kept: bool,
+) -> Option<Breach>
+    requires fits { HaveRoom (journals_of journals.now) }
+    requires other { rule ≢ Rule.V1 }
+    requires tracked { AreTracksOf tracks.now (journals_of journals.now) }
+    requires known { IsTrue kept → IsKept (journals_of journals.now) rule }
+    ensures { IsFirstUnder (journals_of journals.now) rule result }
+{
+    if kept {
+        return None;
+    }
+    first_breach(journals, tracks, rule)
+}
+
 /// The first breach of the rules behind the first one, in the order of rule, node and place.
-fn first_later_breach(journals: &Five<Vec<Record>>, tracks: &Five<Track>) -> Option<Breach>
+fn first_later_breach(
+    alloc: Global,
+    journals: &Five<Vec<Record>>,
+    tracks: &Five<Track>,
+) -> Option<Breach>
     requires fits { HaveRoom (journals_of journals.now) }
     requires formed { IsKept (journals_of journals.now) Rule.V1 }
     requires tracked { AreTracksOf tracks.now (journals_of journals.now) }
@@ -154,10 +178,11 @@ fn first_later_breach(journals: &Five<Vec<Record>>, tracks: &Five<Track>) -> Opt
     if let Some(breach) = first_breach(journals, tracks, Rule::V4) {
         return Some(breach);
     }
-    if let Some(breach) = first_breach(journals, tracks, Rule::V5) {
+    let indexed = are_indexed(alloc, journals);
+    if let Some(breach) = first_id_breach(journals, tracks, Rule::V5, indexed) {
         return Some(breach);
     }
-    first_breach(journals, tracks, Rule::V6)
+    first_id_breach(journals, tracks, Rule::V6, indexed)
 }
 
 /// Whether five journals are sound: where they aren't, the first breach, in the order of rule, node and place.
@@ -174,7 +199,7 @@ pub fn audit(alloc: Global, js: &Five<Vec<Record>>) -> Result<(), AuditEnd>
         Ok(tracks) => tracks,
         Err(AllocError) => return Err(AuditEnd::Memory),
     };
-    match first_later_breach(js, &tracks) {
+    match first_later_breach(alloc, js, &tracks) {
         Some(breach) => Err(AuditEnd::Breach(breach)),
         None => Ok(()),
     }

@@ -50,7 +50,7 @@ pub fn has_vote_at(entries: &[Record], slot: u32, ballot: u64) -> bool
 }
 
 /// Whether this entry is a vote for the command.
-fn is_vote_for(entry: &Record, command: &Command) -> bool
+pub fn is_vote_for(entry: &Record, command: &Command) -> bool
     ensures { IsTrue result ↔ IsVoteWith entry.now (λ slot ballot d. d ≡ command.now) }
 {
     match entry {

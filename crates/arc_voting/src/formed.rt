@@ -1,9 +1,9 @@
 //! Well-formed journals.
 ghost use Rattle.std.specs.Prelude.{◌≡◌, ◌≢◌, ◌↔◌, ◌<◌, ◌≤◌, ◌+◌, ◌*◌, ◌^◌, ℕ, IsTrue, [], length, take};
 ghost use Rattle.std.specs.List.{slice_get};
-ghost use Rattle.arc_voting.specs.Journals.{journals_of, promised_count, promises_of};
+ghost use Rattle.arc_voting.specs.Journals.{journals_of, is_promised, promised_count, promises_of};
 ghost use Rattle.arc_voting.specs.Formed.{IsBallot, IsPromise, IsVote};
-ghost use Rattle.arc_voting.specs.Votes.{closed_len};
+ghost use Rattle.arc_data.specs.Entries.{closed_len};
 ghost use Rattle.arc_voting.specs.Sound.{IsWellFormedIn};
 ghost use Rattle.arc_voting.specs.Walk.{Describes, IsFirstIn, HaveRoom, IsFitBehind};
 
@@ -153,15 +153,24 @@ impl Seen {
     }
 }
 
+/// Whether this entry is a promise.
+#[tactic(auto, unfolding(crate::specs::Journals::is_promised))]
+fn is_promise(entry: &Record) -> bool
+    ensures { result ≡ is_promised entry.now }
+{
+    matches!(entry, Record::Promised { .. })
+}
+
 /// How many promises a journal holds.
 fn promises_in(journal: &[Record]) -> usize
     ensures counted { result ≡ promised_count journal.now }
     ensures few { result ≤ length journal.now }
 {
-    journal
-        .iter()
-        .filter(|entry| matches!(entry, Record::Promised { .. }))
-        .count()
+    let mut promises = 0;
+    for entry in journal {
+        promises += usize::from(is_promise(entry));
+    }
+    promises
 }
 
 /// How many promises the five journals hold.

@@ -1,4 +1,5 @@
-//! What the identifiers of commands promise. These bodies walk whole journals.
+//! What the identifiers of commands promise. These bodies walk whole journals, and name the first breach; `index` tells
+//! sooner that there is none.
 ghost use Rattle.std.specs.Prelude.{◌≡◌, ◌↔◌, ◌<◌, ◌≤◌, ℕ, IsTrue, length};
 ghost use Rattle.arc_data.specs.declared.command.Command.{Command};
 ghost use Rattle.arc_voting.specs.Journals.{journals_of};

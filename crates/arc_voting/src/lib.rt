@@ -13,7 +13,13 @@
 //! - V6, no id is chosen twice.
 //!
 //! `specs/` says the rules as facts of one entry (`Formed`, `Settled`, `Ids`, `Sound`), the table of what a node appends
-//! and answers (`Turn`), and which mail may be sent (`Lawful`).
+//! and answers (`Turn`), which mail may be sent (`Lawful`), and what an endpoint may propose (`Proposal`).
+//!
+//! The laws of sound journals are calls that do nothing (`laws.rt`): one command is chosen at a slot, the applied lists are
+//! one history, and neither lawful mail, however much of it is handled by whom, nor a vote for a proposal changes that.
+//!
+//! The audit takes about n log n steps over journals that keep the rules on identifiers: an index of identifiers is filled
+//! once, and each entry compared with it. Where that fails, the entries are gone through one by one for the first breach.
 //!
 //! It stands on `arc_data` for entries and on `arc_bytes` for five values. It knows no disk, no message's way and no
 //! rule of routing controls.
@@ -27,6 +33,8 @@ mod breaches;
 mod entries;
 mod formed;
 mod ids;
+mod index;
+mod laws;
 mod majority;
 mod rule;
 mod settled;
@@ -36,6 +44,10 @@ mod track;
 pub use applied::applied_at;
 pub use breach::{AuditEnd, Breach};
 pub use breaches::audit;
+pub use laws::{
+    chosen_are_equal, fronts_are_handled, have_one_history, histories_only_grow,
+    lawful_mail_keeps_sound, proposals_keep_sound,
+};
 pub use majority::chosen;
 pub use rule::Rule;
 

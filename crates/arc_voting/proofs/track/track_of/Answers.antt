@@ -2,7 +2,8 @@
 use Rattle.std.proofs.Common.{◌≡◌, ◌+◌, List, [], ◌∷◌, ◌++◌, Some, length, sym, subst, ◌∙◌, ap, arith, refl}
 use Rattle.arc_voting.specs.declared.slot.Part.{Part}
 use Rattle.arc_voting.specs.declared.track.Track.{Track}
-use Rattle.arc_voting.specs.Votes.{is_closed, promise_after}
+use Rattle.arc_data.specs.Entries.{is_closed}
+use Rattle.arc_voting.proofs.Promises.{promise_after}
 use Rattle.arc_voting.proofs.Rulings.{entry_at}
 use Rattle.arc_voting.proofs.Tracking.{IsTracked, tracked_none, tracked_same, tracked_closed, tracked_as, track_made}
 use Rattle.arc_voting.proofs.track.track_of.Goals as goal
@@ -14,6 +15,7 @@ loop-place-init c =
     subst P (sym c.new-parts.ensures.items) (tracked_none c.args.journal.now)
 
 pub loop-place-preserved : goal.loop-place-preserved
+unfolding is_closed
 loop-place-preserved c =
     elim c.match-journal-place.branch [
       | in-Promised w ↦

@@ -1,0 +1,20 @@
+//! The acceptor: what a node that keeps some entries appends and answers to a message.
+//!
+//! It stands on `arc_data` for entries, messages and answers, and on `arc_voting` for the table and for what a list of
+//! entries says. A node stands on it. It knows no disk.
+//!
+//! The law that it keeps is the acceptor's of Lamport, "Paxos Made Simple", section 2.2: a node that has promised a
+//! ballot takes part in no lower one, and a promise tells the vote of highest ballot. A slot is closed once, and only at
+//! the end of the list.
+//!
+//! What the caller owes: fewer than 2^32 entries, and a slot below 2^32 - 1 in what is to be learned.
+#![tactic(auto)]
+
+mod table;
+mod turned;
+
+pub use table::answer;
+pub use turned::Turned;
+
+#[cfg(test)]
+mod tests;

@@ -1,0 +1,218 @@
+//! The table of messages and answers.
+ghost use Rattle.std.specs.Prelude.{◌≡◌, ◌↔◌, ◌≤◌, ◌<◌, ◌+◌, ◌^◌, IsTrue, Some, IfOk, length, true, false};
+ghost use Rattle.std.specs.List.{slice_get};
+ghost use Rattle.arc_data.specs.Entries.{closed_len, promise, told, top_vote};
+ghost use Rattle.arc_voting.specs.Chosen.{HoldsVote};
+ghost use Rattle.arc_voting.specs.Turn.{IsTurn, answers_only, appends, promise_turn, turn_of, vote_turn};
+ghost use Rattle.arc_acceptor.specs.Answering.{IsLearnable, turn_in};
+
+use crate::Turned;
+use arc_bytes::Memory;
+use arc_data::{Answer, Command, Equals, Message, Record, closed_len, promise, top_vote};
+use arc_voting::applied_at;
+use std::alloc::Global;
+
+/// What a node that keeps these entries appends and answers to a message. Of two votes of one highest ballot the first
+/// counts.
+pub fn answer(alloc: Global, rs: &[Record], m: &Message) -> Result<Turned, Memory>
+    requires entries { length rs.now < 2 ^ 32 }
+    requires slot { IsLearnable m.now }
+    ensures { IfOk result (λ turned. IsTurn rs.now m.now (turn_in turned)) }
+{
+    match m {
+        Message::Status { slot } => status(alloc, rs, *slot),
+        Message::Prepare { slot, ballot } => prepare(alloc, rs, *slot, *ballot),
+        Message::Accept {
+            slot,
+            ballot,
+            command,
+        } => accept(alloc, rs, *slot, *ballot, command),
+        Message::Learn { slot, command } => learn(alloc, rs, *slot, command),
+    }
+}
+
+/// An answer alone.
+fn only(reply: Answer) -> Turned
+    ensures { turn_in result ≡ answers_only reply }
+{
+    Turned {
+        append: None,
+        reply,
+    }
+}
+
+/// The command that is closed at the slot.
+fn known(alloc: Global, slot: u32, command: &Command) -> Result<Turned, Memory>
+    ensures { IfOk result (λ t. turn_in t ≡ answers_only (Answer.Known slot command.now)) }
+{
+    let command = command.copy(alloc)?;
+    Ok(only(Answer::Known { slot, command }))
+}
+
+/// The length of the list, the promise, and the command at the slot.
+fn status(alloc: Global, rs: &[Record], slot: u32) -> Result<Turned, Memory>
+    requires { length rs.now < 2 ^ 32 }
+    ensures { IfOk result (λ t. turn_in t ≡ turn_of false rs.now (Message.Status slot)) }
+{
+    let known = match applied_at(rs, slot) {
+        Some(command) => Some(command.copy(alloc)?),
+        None => None,
+    };
+    Ok(only(Answer::At {
+        length: closed_len(rs),
+        ballot: promise(rs),
+        known,
+    }))
+}
+
+/// A promise at the end of the list.
+fn prepare(alloc: Global, rs: &[Record], slot: u32, ballot: u64) -> Result<Turned, Memory>
+    requires { length rs.now < 2 ^ 32 }
+    ensures { IfOk result (λ t. turn_in t ≡ turn_of false rs.now (Message.Prepare slot ballot)) }
+{
+    if let Some(command) = applied_at(rs, slot) {
+        return known(alloc, slot, command);
+    }
+    let length = closed_len(rs);
+    if length < slot {
+        return Ok(only(Answer::Behind { length }));
+    }
+    promise_here(alloc, rs, slot, ballot)
+}
+
+/// A promise, in a ballot above the last one.
+fn promise_here(alloc: Global, rs: &[Record], slot: u32, ballot: u64) -> Result<Turned, Memory>
+    requires { length rs.now < 2 ^ 32 }
+    ensures { IfOk result (λ t. turn_in t ≡ promise_turn rs.now slot ballot) }
+{
+    let last = promise(rs);
+    if ballot <= last {
+        return Ok(only(Answer::Refused { ballot: last }));
+    }
+    let vote = copy_vote(alloc, top_vote(rs, slot))?;
+    let from = closed_len(rs);
+    Ok(Turned {
+        append: Some(Record::Promised { from, ballot }),
+        reply: Answer::Promise { slot, ballot, vote },
+    })
+}
+
+/// A copy of a vote that is lent.
+fn copy_vote(alloc: Global, vote: Option<(u64, &Command)>) -> Result<Option<(u64, Command)>, Memory>
+    ensures { IfOk result (λ copy. copy ≡ told vote.entry) }
+{
+    match vote {
+        Some((ballot, command)) => {
+            let command = command.copy(alloc)?;
+            Ok(Some((ballot, command)))
+        }
+        None => Ok(None),
+    }
+}
+
+/// A vote at the end of the list.
+fn accept(
+    alloc: Global,
+    rs: &[Record],
+    slot: u32,
+    ballot: u64,
+    command: &Command,
+) -> Result<Turned, Memory>
+    requires { length rs.now < 2 ^ 32 }
+    ensures { IfOk result (λ t. IsTurn rs.now (Message.Accept slot ballot command.now) (turn_in t)) }
+{
+    let stands = holds_vote(rs, slot, ballot, command);
+    accept_told(alloc, stands, rs, slot, ballot, command)
+}
+
+/// A vote at the end of the list, where it is known whether it stands already.
+fn accept_told(
+    alloc: Global,
+    stands: bool,
+    rs: &[Record],
+    slot: u32,
+    ballot: u64,
+    command: &Command,
+) -> Result<Turned, Memory>
+    requires { length rs.now < 2 ^ 32 }
+    ensures { IfOk result (λ t. turn_in t ≡ turn_of stands rs.now (Message.Accept slot ballot command.now)) }
+{
+    if let Some(command) = applied_at(rs, slot) {
+        return known(alloc, slot, command);
+    }
+    let length = closed_len(rs);
+    if length < slot {
+        return Ok(only(Answer::Behind { length }));
+    }
+    vote_here(alloc, stands, rs, slot, ballot, command)
+}
+
+/// A vote, in a ballot that isn't below the promise.
+fn vote_here(
+    alloc: Global,
+    stands: bool,
+    rs: &[Record],
+    slot: u32,
+    ballot: u64,
+    command: &Command,
+) -> Result<Turned, Memory>
+    ensures { IfOk result (λ t. turn_in t ≡ vote_turn stands rs.now slot ballot command.now) }
+{
+    let last = promise(rs);
+    if ballot < last {
+        return Ok(only(Answer::Refused { ballot: last }));
+    }
+    if stands {
+        return Ok(only(Answer::Accepted { slot, ballot }));
+    }
+    let command = command.copy(alloc)?;
+    Ok(Turned {
+        append: Some(Record::Voted {
+            slot,
+            ballot,
+            command,
+        }),
+        reply: Answer::Accepted { slot, ballot },
+    })
+}
+
+/// A command that was chosen at the end of the list.
+fn learn(alloc: Global, rs: &[Record], slot: u32, command: &Command) -> Result<Turned, Memory>
+    requires entries { length rs.now < 2 ^ 32 }
+    requires slot { slot + 1 < 2 ^ 32 }
+    ensures { IfOk result (λ t. turn_in t ≡ turn_of false rs.now (Message.Learn slot command.now)) }
+{
+    let length = closed_len(rs);
+    if slot < length {
+        return Ok(only(Answer::Learned { length }));
+    }
+    if slot > length {
+        return Ok(only(Answer::Behind { length }));
+    }
+    let command = command.copy(alloc)?;
+    Ok(Turned {
+        append: Some(Record::Closed { slot, command }),
+        reply: Answer::Learned { length: length + 1 },
+    })
+}
+
+/// Whether this vote stands among the entries.
+fn holds_vote(rs: &[Record], slot: u32, ballot: u64, command: &Command) -> bool
+    ensures { IsTrue result ↔ HoldsVote rs.now slot ballot command.now }
+{
+    rs.iter().any(|entry| is_vote(entry, slot, ballot, command))
+}
+
+/// Whether this entry is that vote.
+fn is_vote(entry: &Record, slot: u32, ballot: u64, command: &Command) -> bool
+    ensures { IsTrue result ↔ (entry.now ≡ Record.Voted slot ballot command.now) }
+{
+    match entry {
+        Record::Voted {
+            slot: its_slot,
+            ballot: its_ballot,
+            command: its_command,
+        } => *its_slot == slot && *its_ballot == ballot && its_command.equals(command),
+        _ => false,
+    }
+}

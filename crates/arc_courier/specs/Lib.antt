@@ -1,0 +1,2 @@
+pub mod Courier
+pub mod Scripted

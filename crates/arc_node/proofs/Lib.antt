@@ -1,0 +1,4 @@
+pub mod Agreements
+pub mod Orders
+pub mod Behind
+pub mod Turning

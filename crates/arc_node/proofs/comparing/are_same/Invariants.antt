@@ -1,0 +1,6 @@
+-- So far the two are the same.
+use Rattle.std.proofs.Common.{◌≡◌, length, take}
+use Rattle.arc_node.proofs.comparing.are_same.Given as goal
+
+abbrev pub invariant-loop-i : goal.invariant-loop-i
+invariant-loop-i l = (length l.left ≡ length l.right) × (take l.i l.left ≡ take l.i l.right)

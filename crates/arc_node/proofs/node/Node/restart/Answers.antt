@@ -1,0 +1,29 @@
+-- The calls of the reading come first, and then those of the start; what they leave was possible before.
+use Rattle.std.proofs.Common.{◌⊎◌, inl}
+use Rattle.arc_journal.proofs.Moments.{joined, widened}
+use Rattle.arc_journal.specs.Journal.{disk_of}
+use Rattle.arc_node.specs.declared.node.Node.{Node}
+use Rattle.arc_node.specs.declared.standing.Standing.TheVariants.{Down}
+use Rattle.arc_node.specs.Node.{disk_in, MayRead}
+use Rattle.arc_node.specs.Starting.{HasStart}
+use Rattle.arc_node.proofs.Behind.{start_behind_reading}
+use Rattle.arc_node.proofs.Orders.{read_before}
+use Rattle.arc_node.proofs.node.Node.restart.Goals as goal
+
+pub returns-clause-calls : goal.returns-clause-calls
+returns-clause-calls g c =
+    let disk = g.D.Disk in
+    start_behind_reading disk.moment disk.faults disk.stops_in disk.is_tame (disk_in c.args.self.now) (disk_of c.reopen.new.self)
+    (disk_in c.start_behind.new.self) c.start_behind.result c.in-Ok.ensures.calls c.start_behind.ensures.calls
+
+pub returns-clause-any_moment : goal.returns-clause-any_moment
+returns-clause-any_moment g c = λ told order.
+    let disk = g.D.Disk in
+    let old = c.args.self.now in
+    let mid : Node g.row.D.Denot = record { journal = c.reopen.new.self; records = old.records; doubt = old.doubt; standing = Down } in
+    let new = c.start_behind.new.self in
+    joined disk.moment disk.left_since (disk_in old) (disk_in mid) (disk_in new) (λ image. MayRead old image ⊎ HasStart old image)
+    (widened disk.moment disk.left_since (disk_in old) (disk_in mid) (disk.may_leave (disk_in old)) (λ image. MayRead old image ⊎ HasStart old image)
+    (λ image left. inl (order.images told image left)) (c.in-Ok.ensures.any_moment told))
+    (widened disk.moment disk.left_since (disk_in mid) (disk_in new) (λ image. MayRead mid image ⊎ HasStart mid image) (λ image. MayRead old image ⊎ HasStart old image)
+    (read_before old mid c.in-Ok.ensures.same.node c.in-Ok.ensures.same.slots (λ list possible. possible)) (c.start_behind.ensures.any_moment told))

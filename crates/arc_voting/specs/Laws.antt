@@ -1,0 +1,24 @@
+-- What sound journals promise: one command a slot, one history, and no message that changes that.
+use Rattle.std.specs.Prelude.{ℕ, ◌≡◌, ◌≢◌, ◌<◌, ◌⊎◌, List, ◌++◌, AllPairs}
+use Rattle.arc_data.specs.declared.command.Command.{Command}
+use Rattle.arc_voting.specs.Journals.{Journals}
+use Rattle.arc_voting.specs.Chosen.{IsChosen}
+use Rattle.arc_voting.specs.Lists.{applied}
+use Rattle.arc_voting.specs.Sound.{IsSound}
+
+-- Two commands that are chosen at one slot are equal.
+abbrev pub ChosenAreEqual : Journals → Type 0
+ChosenAreEqual js = (slot : ℕ) (c d : Command) → IsChosen js slot c → IsChosen js slot d → c ≡ d
+
+-- A list begins another one, or is it.
+abbrev pub Begins : List Command → List Command → Type 0
+Begins former later = (rest : List Command) × (former ++ rest ≡ later)
+
+-- Of the lists that two nodes applied one begins the other.
+abbrev pub HaveOneHistory : Journals → Type 0
+HaveOneHistory js = (node other : ℕ) → node < 5 → other < 5 →
+    Begins (applied (js node)) (applied (js other)) ⊎ Begins (applied (js other)) (applied (js node))
+
+-- The commands of each applied list have different identifiers.
+abbrev pub IdsDiffer : Journals → Type 0
+IdsDiffer js = (node : ℕ) → node < 5 → AllPairs (λ c d. c.id ≢ d.id) (applied (js node))

@@ -1,0 +1,39 @@
+//! What sound journals promise, each law as a call that does nothing.
+ghost use Rattle.arc_voting.specs.Journals.{Journals};
+ghost use Rattle.arc_voting.specs.Sound.{IsSound};
+ghost use Rattle.arc_voting.specs.Laws.{ChosenAreEqual, HaveOneHistory, IdsDiffer};
+ghost use Rattle.arc_voting.specs.Handled.{LawfulMailKeepsSound, HistoriesOnlyGrow, FrontsAreHandled};
+ghost use Rattle.arc_voting.specs.Proposal.{ProposalKeepsSound, StandingVoteIsTheProposal};
+
+/// Two commands that are chosen at one slot of sound journals are equal.
+pub fn chosen_are_equal()
+    ensures { (js : Journals) → IsSound js → ChosenAreEqual js }
+{}
+
+/// Of the lists that two nodes of sound journals applied one begins the other, and no identifier comes twice in a list.
+pub fn have_one_history()
+    ensures begins { (js : Journals) → IsSound js → HaveOneHistory js }
+    ensures ids { (js : Journals) → IsSound js → IdsDiffer js }
+{}
+
+/// Whatever part of lawful mail each node has handled, sound journals are sound still.
+pub fn lawful_mail_keeps_sound()
+    ensures { LawfulMailKeepsSound }
+{}
+
+/// Whatever mail a node handles, what it applied before begins what it has applied then.
+pub fn histories_only_grow()
+    ensures { HistoriesOnlyGrow }
+{}
+
+/// Each front of what a node has appended is what it keeps after some of the messages: as where a crash left no more.
+pub fn fronts_are_handled()
+    ensures { FrontsAreHandled }
+{}
+
+/// A vote for what the promises of three nodes leave to be proposed keeps sound journals sound; and where the endpoint
+/// holds a vote in that ballot already, it is for the proposal.
+pub fn proposals_keep_sound()
+    ensures sound { ProposalKeepsSound }
+    ensures standing { StandingVoteIsTheProposal }
+{}
