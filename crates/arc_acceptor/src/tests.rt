@@ -1,5 +1,5 @@
 //! The table of messages and answers, each row of it once.
-ghost use Rattle.std.specs.Prelude.{◌<◌, ◌+◌, ◌^◌, length};
+ghost use Rattle.arc_acceptor.specs.Answering.{IsLearnable};
 
 use super::answer;
 use arc_bytes::Memory;
@@ -47,7 +47,9 @@ fn command(token: u64) -> Command {
     }
 }
 
-fn message(word: Word) -> Message {
+fn message(word: Word) -> Message
+    ensures { IsLearnable result }
+{
     match word {
         Prepare(slot, ballot) => Message::Prepare { slot, ballot },
         Accept(slot, ballot, token) => Message::Accept {
@@ -121,6 +123,9 @@ fn turn(alloc: Global, journal: &[Word], asked: Word) -> Result<(Option<Word>, W
     let mut entries = Vec::new(alloc);
     for word in journal {
         entries.push(entry(*word))?;
+    }
+    if entries.len() > 99 {
+        return Err(Memory);
     }
     let turned = answer(alloc, &entries, &message(asked))?;
     let appended = match &turned.append {

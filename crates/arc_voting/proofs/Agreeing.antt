@@ -1,12 +1,10 @@
 -- Two commands that are chosen at one slot are equal, so that the applied lists are one history.
-use Rattle.std.proofs.Common.{◌≡◌, ◌≢◌, ℕ, zero, suc, ◌<◌, ◌≤◌, ◌⊎◌, inl, inr, Option, Some, None, List, [], ◌∷◌, ◌++◌, length, get_or, subst, sym, ◌∙◌, ap, arith, refl}
-use Rattle.std.specs.List.{Contains, AllPairs, slice_get}
+use Rattle.std.proofs.Common.{◌≡◌, ℕ, suc, ◌<◌, ◌⊎◌, inl, inr, Some, List, [], ◌∷◌, ◌++◌, get_or, subst, sym, ◌∙◌, ap, arith, refl}
+use Rattle.std.specs.List.{slice_get}
 use Rattle.std.proofs.lemmas.Bool.{cases_lt, cases_eq}
 use Rattle.std.proofs.lemmas.Option.{slice_get-get_or}
 use Rattle.arc_data.specs.declared.command.Command.{Command}
-use Rattle.arc_data.specs.declared.record.Record.{Record}
-use Rattle.arc_data.specs.declared.record.Record.TheVariants.{Opened, Promised, Voted, Closed}
-use Rattle.arc_voting.specs.Journals.{Journals, ByThree, promises_of}
+use Rattle.arc_voting.specs.Journals.{Journals, promises_of}
 use Rattle.arc_voting.specs.Chosen.{HoldsVote, IsVotedByThree, IsChosen}
 use Rattle.arc_voting.specs.Settled.{Settles, IsSettled, LowerAreSettled}
 use Rattle.arc_voting.specs.Formed.{IsBallot}

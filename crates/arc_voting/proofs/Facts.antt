@@ -1,6 +1,6 @@
 -- Sound journals, as facts of votes and of closed slots wherever they stand.
-use Rattle.std.proofs.Common.{◌≡◌, ◌≢◌, ℕ, ◌%◌, ◌<◌, ◌≤◌, ◌⊎◌, inl, inr, Option, Some, None, IfSome, List, length, take, get_or, subst, sym, ◌∙◌, ap, arith, refl}
-use Rattle.std.specs.List.{Contains, All, slice_get}
+use Rattle.std.proofs.Common.{◌≡◌, ℕ, ◌%◌, ◌<◌, inl, inr, Option, Some, None, IfSome, List, length, take, get_or, subst, sym, ◌∙◌, ap, arith, refl}
+use Rattle.std.specs.List.{Contains, slice_get}
 use Rattle.std.proofs.lemmas.Bool.{cases_lt, cases_eq}
 use Rattle.std.proofs.lemmas.List.{length-take-le, get_or-take, take_all}
 use Rattle.std.proofs.lemmas.Option.{slice_get_read, slice_get_within, get_or_from_slice_get, same_Some}

@@ -1,5 +1,5 @@
 -- Journals of which one has an entry more.
-use Rattle.std.proofs.Common.{◌≡◌, ◌≢◌, ℕ, zero, suc, ◌+◌, ◌*◌, ◌<◌, ◌≤◌, ◌⊎◌, inl, inr, Bool, true, false, cond, Option, Some, None, MatchOption, List, [], ◌∷◌, ◌++◌, length, take, drop, get_or, subst, sym, ◌∙◌, ap, arith, refl}
+use Rattle.std.proofs.Common.{◌≡◌, ◌≢◌, ℕ, zero, suc, ◌+◌, ◌<◌, ◌≤◌, ◌⊎◌, inl, inr, Bool, cond, Option, Some, None, MatchOption, List, [], ◌∷◌, ◌++◌, length, take, drop, get_or, subst, sym, ◌∙◌, ap, arith, refl}
 use Rattle.std.specs.List.{Contains, slice_get, count_by}
 use Rattle.std.proofs.lemmas.Bool.{cases_lt, cases_eq}
 use Rattle.std.proofs.lemmas.List.{length_push, get_or_push, take_at, take_all, take-append-le, drop-append-le}
@@ -10,10 +10,10 @@ use Rattle.arc_data.specs.declared.record.Record.{Record}
 use Rattle.arc_data.specs.declared.record.Record.TheVariants.{Opened, Promised, Voted, Closed}
 use Rattle.arc_data.specs.Entries.{promise}
 use Rattle.arc_voting.specs.Journals.{Journals, promises_of, promised_count, is_promised}
-use Rattle.arc_voting.specs.Chosen.{HoldsVote, IsVoteWith, IsChosen}
-use Rattle.arc_voting.specs.Formed.{Fits, IsPromise, IsVote}
+use Rattle.arc_voting.specs.Chosen.{HoldsVote, IsChosen}
+use Rattle.arc_voting.specs.Formed.{Fits}
 use Rattle.arc_voting.specs.Ids.{VotesFor, VotesSince, StartsAtItsNode}
-use Rattle.arc_voting.specs.Settled.{Settles, IsSettled, LowerAreSettled, HoldsNoVote, HasPromisedAbove}
+use Rattle.arc_voting.specs.Settled.{Settles, LowerAreSettled}
 use Rattle.arc_voting.specs.Tracks.{IsWellFormedWhole}
 use Rattle.arc_voting.proofs.Noted.{count_more}
 use Rattle.arc_voting.proofs.Three.{below_five, by_three_map}

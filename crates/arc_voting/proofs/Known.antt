@@ -1,6 +1,6 @@
 -- Where an index says what is needed of each entry, the rules on identifiers are kept.
-use Rattle.std.proofs.Common.{◌≡◌, ◌≢◌, ℕ, ◌+◌, ◌<◌, ◌≤◌, Option, Some, None, IfSome, MatchOption, List, length, take, drop, get_or, subst, sym, ◌∙◌, ap, arith, refl}
-use Rattle.std.specs.List.{Contains, All, slice_get}
+use Rattle.std.proofs.Common.{◌≡◌, ℕ, ◌+◌, ◌<◌, ◌≤◌, Option, Some, None, IfSome, MatchOption, List, take, drop, subst, sym, ◌∙◌, ap, arith, refl}
+use Rattle.std.specs.List.{Contains, slice_get}
 use Rattle.std.specs.BTreeMap.{BTreeMap}
 use Rattle.std.proofs.lemmas.List.Elements.{All-contains}
 use Rattle.std.proofs.lemmas.Option.{slice_get_within, get_or_from_slice_get, same_Some}
@@ -11,11 +11,11 @@ use Rattle.arc_data.specs.declared.record.Record.{Record}
 use Rattle.arc_data.specs.declared.record.Record.TheVariants.{Opened, Promised, Voted, Closed}
 use Rattle.arc_data.specs.Entries.{closed_len}
 use Rattle.arc_voting.specs.declared.index.Begun.{Begun}
-use Rattle.arc_voting.specs.declared.rule.Rule.TheVariants.{V1, V2, V3, V4, V5, V6}
+use Rattle.arc_voting.specs.declared.rule.Rule.TheVariants.{V1, V3, V4, V5, V6}
 use Rattle.arc_voting.specs.Journals.{Journals, promises_of}
 use Rattle.arc_voting.specs.Chosen.{HoldsVote, IsVoteWith, IsChosen}
-use Rattle.arc_voting.specs.Ids.{VotesFor, VotesSince, StartsAtItsNode, HasNoDouble, HasNoEarlierDouble, IsNotChosenBelow}
-use Rattle.arc_voting.specs.Index.{begun_in, IsVoteAt, BeganAt, IsKnownVote, IsKnownClosed, IsKnown, AreKnown}
+use Rattle.arc_voting.specs.Ids.{VotesFor, StartsAtItsNode, HasNoDouble, HasNoEarlierDouble, IsNotChosenBelow}
+use Rattle.arc_voting.specs.Index.{begun_in, IsVoteAt, IsKnownVote, IsKnownClosed, IsKnown, AreKnown}
 use Rattle.arc_voting.specs.Sound.{IsKept}
 use Rattle.arc_voting.proofs.Agreeing.{Settling, chosen_equal}
 use Rattle.arc_voting.proofs.Contained.{contains_take, contains_from}

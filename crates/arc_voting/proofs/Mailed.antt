@@ -1,9 +1,9 @@
 -- Lawful mail keeps sound journals sound.
-use Rattle.std.proofs.Common.{◌≡◌, ◌≢◌, ℕ, zero, suc, ◌%◌, ◌+◌, ◌*◌, ◌<◌, ◌≤◌, ◌⊎◌, inl, inr, Bool, true, false, if◌then◌else◌, nat_lt, Option, Some, None, List, [], ◌∷◌, ◌++◌, length, take, subst, sym, ◌∙◌, ap, arith, refl}
+use Rattle.std.proofs.Common.{◌≡◌, ◌≢◌, ℕ, zero, suc, ◌%◌, ◌+◌, ◌*◌, ◌<◌, ◌≤◌, ◌⊎◌, inl, inr, if◌then◌else◌, nat_lt, Option, Some, None, List, [], ◌∷◌, ◌++◌, take, subst, sym, ◌∙◌, ap, arith, refl}
 use Rattle.std.specs.Prelude.{⊤}
-use Rattle.std.specs.List.{Contains, filter_map}
+use Rattle.std.specs.List.{Contains}
 use Rattle.std.proofs.lemmas.Bool.{cases_lt, cases_eq, cases_Bool, ltb-true, lt-ltb}
-use Rattle.std.proofs.lemmas.List.{take_all, append-nil, append_assoc}
+use Rattle.std.proofs.lemmas.List.{append-nil, append_assoc}
 use Rattle.std.proofs.lemmas.List.Elements.{filter_map-append}
 use Rattle.arc_data.specs.Entries.{closed_len, promise}
 use Rattle.arc_data.specs.declared.command.Command.{Command}
@@ -11,15 +11,13 @@ use Rattle.arc_data.specs.declared.message.Message.{Message}
 use Rattle.arc_data.specs.declared.message.Message.TheVariants.{Status, Prepare, Accept, Learn}
 use Rattle.arc_data.specs.declared.message.Answer.TheVariants.{Known, Learned}
 use Rattle.arc_data.specs.declared.record.Record.{Record}
-use Rattle.arc_data.specs.declared.record.Record.TheVariants.{Opened, Promised, Voted, Closed}
+use Rattle.arc_data.specs.declared.record.Record.TheVariants.{Promised, Voted, Closed}
 use Rattle.arc_voting.specs.Journals.{Journals, promises_of, with_entry}
 use Rattle.arc_voting.specs.Chosen.{HoldsVote, IsChosen}
-use Rattle.arc_voting.specs.Formed.{Fits, IsBallot, IsOneCommand, IsPromise, IsVote}
-use Rattle.arc_voting.specs.Lawful.{Mail, IsOwnVote, IsLawfulTo, IsLawful}
-use Rattle.arc_voting.specs.Laws.{Begins}
+use Rattle.arc_voting.specs.Formed.{IsBallot, IsOneCommand, IsPromise, IsVote}
+use Rattle.arc_voting.specs.Lawful.{Mail, IsOwnVote, IsLawfulTo}
 use Rattle.arc_voting.specs.Lists.{applied, closed_by}
 use Rattle.arc_voting.specs.Handled.{appended, Handles, IsHandled, LawfulMailKeepsSound, HistoriesOnlyGrow}
-use Rattle.arc_voting.specs.Sound.{IsSound}
 use Rattle.arc_voting.specs.Tracks.{IsWellFormedWhole}
 use Rattle.arc_voting.specs.Turn.{Turn, IsTurn, answers_only, appends, vote_turn, promise_turn, turn_of}
 use Rattle.arc_voting.proofs.Added.{AdmitsVote, Admits, added}

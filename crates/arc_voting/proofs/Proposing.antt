@@ -1,19 +1,17 @@
 -- A vote for the proposal keeps sound journals sound.
-use Rattle.std.proofs.Common.{◌≡◌, ◌≢◌, ℕ, zero, suc, ◌%◌, ◌+◌, ◌<◌, ◌≤◌, ◌⊎◌, inl, inr, Option, Some, None, List, [], ◌∷◌, ◌++◌, length, take, get_or, subst, sym, ◌∙◌, ap, arith, refl}
+use Rattle.std.proofs.Common.{◌≡◌, ℕ, ◌%◌, ◌+◌, ◌<◌, ◌≤◌, inl, inr, Option, Some, None, List, [], ◌∷◌, ◌++◌, length, take, subst, sym, ◌∙◌, ap, arith, refl}
 use Rattle.std.specs.List.{Contains, slice_get}
 use Rattle.std.proofs.lemmas.Bool.{cases_lt, cases_eq}
 use Rattle.std.proofs.lemmas.List.{take_at, length_push}
 use Rattle.std.proofs.lemmas.List.Elements.{Contains-append_left}
-use Rattle.std.proofs.lemmas.Option.{slice_get_within, same_Some}
-use Rattle.arc_data.specs.Entries.{closed_len, promise, top_vote}
+use Rattle.arc_data.specs.Entries.{promise, top_vote}
 use Rattle.arc_data.specs.declared.command.Command.{Command}
 use Rattle.arc_data.specs.declared.record.Record.{Record}
 use Rattle.arc_data.specs.declared.record.Record.TheVariants.{Opened, Promised, Voted, Closed}
-use Rattle.arc_voting.specs.Journals.{Journals, ByThree, promises_of, with_entry}
-use Rattle.arc_voting.specs.Chosen.{HoldsVote, IsChosen}
-use Rattle.arc_voting.specs.Formed.{IsBallot, IsOneCommand, IsPromise, IsVote}
-use Rattle.arc_voting.specs.Ids.{StartsAtItsNode}
-use Rattle.arc_voting.specs.Proposal.{Promises, IsCounted, IsTold, IsProposal, IsOwn, MayPropose, AreLatest, ProposalKeepsSound, StandingVoteIsTheProposal}
+use Rattle.arc_voting.specs.Journals.{Journals, promises_of, with_entry}
+use Rattle.arc_voting.specs.Chosen.{HoldsVote}
+use Rattle.arc_voting.specs.Formed.{IsBallot, IsPromise, IsVote}
+use Rattle.arc_voting.specs.Proposal.{Promises, IsCounted, IsTold, MayPropose, AreLatest, ProposalKeepsSound, StandingVoteIsTheProposal}
 use Rattle.arc_voting.specs.Settled.{HoldsNoVote, Settles, IsSettled, LowerAreSettled}
 use Rattle.arc_voting.specs.Sound.{IsSound}
 use Rattle.arc_voting.specs.Tracks.{IsWellFormedWhole}
@@ -26,7 +24,7 @@ use Rattle.arc_voting.proofs.Same.{with_entry_step}
 use Rattle.arc_voting.proofs.Three.{by_three_map}
 use Rattle.arc_voting.proofs.Tops.{top_none, top_holds, top_most}
 use Rattle.arc_voting.proofs.Tracking.{fits_at}
-use Rattle.arc_voting.proofs.Uses.{one_command, vote_fits_at, vote_in_range, promise_in_range, promise_is_highest, no_promise_above}
+use Rattle.arc_voting.proofs.Uses.{vote_fits_at, vote_in_range, promise_in_range, promise_is_highest, no_promise_above}
 use Rattle.arc_voting.proofs.Walks.{on_votes_from}
 
 -- what stands behind the first part of a list

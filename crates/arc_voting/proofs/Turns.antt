@@ -1,13 +1,13 @@
 -- What a turn appends, by the table.
-use Rattle.std.proofs.Common.{◌≡◌, ◌≢◌, ℕ, ◌+◌, ◌<◌, ◌≤◌, ◌⊎◌, inl, inr, [], ◌∷◌, Bool, true, false, if◌then◌else◌, nat_lt, nat_le, Option, Some, None, List, length, get_or, sym, ◌∙◌, ap, arith, refl}
+use Rattle.std.proofs.Common.{◌≡◌, ℕ, ◌<◌, ◌≤◌, ◌⊎◌, inl, inr, [], ◌∷◌, Bool, true, false, if◌then◌else◌, nat_lt, nat_le, Option, Some, None, List, length, get_or, arith, refl}
 use Rattle.std.specs.List.{slice_get}
 use Rattle.std.proofs.lemmas.Bool.{cases_lt, ltb-false, leb-false}
 use Rattle.std.proofs.lemmas.Option.{slice_get-get_or, same_Some}
 use Rattle.arc_data.specs.Entries.{closed_len, promise, top_vote}
 use Rattle.arc_data.specs.declared.command.Command.{Command}
-use Rattle.arc_data.specs.declared.message.Answer.TheVariants.{At, Known, Behind, Refused, Promise, Accepted, Learned}
+use Rattle.arc_data.specs.declared.message.Answer.TheVariants.{Behind, Refused, Promise, Accepted}
 use Rattle.arc_data.specs.declared.record.Record.{Record}
-use Rattle.arc_data.specs.declared.record.Record.TheVariants.{Promised, Voted, Closed}
+use Rattle.arc_data.specs.declared.record.Record.TheVariants.{Promised, Voted}
 use Rattle.arc_voting.specs.Lists.{applied}
 use Rattle.arc_voting.specs.Turn.{Turn, answers_only, appends, at_the_end, vote_turn, promise_turn}
 use Rattle.arc_voting.proofs.Uses.{applied_length}

@@ -4,7 +4,6 @@ use Rattle.arc_data.specs.declared.command.Command.{Command}
 use Rattle.arc_voting.specs.Journals.{Journals}
 use Rattle.arc_voting.specs.Chosen.{IsChosen}
 use Rattle.arc_voting.specs.Lists.{applied}
-use Rattle.arc_voting.specs.Sound.{IsSound}
 
 -- Two commands that are chosen at one slot are equal.
 abbrev pub ChosenAreEqual : Journals → Type 0
