@@ -1,0 +1,4 @@
+pub mod Three
+pub mod Tops
+pub mod Owned
+pub mod Law
