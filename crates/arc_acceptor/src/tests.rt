@@ -200,3 +200,23 @@ fn held_messages(rt: HostRuntime) -> Result<(), Fail> {
     }
     Ok(())
 }
+
+/// What a peer has that voted in ballot 5, and whose `Learn` was kept on the way.
+const SILENT: [Word; 4] = [Open(1), Promise(0, 5), Vote(0, 5, 1), Close(0, 1)];
+
+#[test]
+fn silent_peers(rt: HostRuntime) -> Result<(), Fail> {
+    let alloc = rt.alloc();
+    for (entries, asked, appended, answered) in [
+        // the kept message is delivered once, and then again
+        (3usize, Learn(0, 1), Some(Close(0, 1)), Learned(1)),
+        (4, Learn(0, 1), None, Learned(1)),
+        // an endpoint that works with it later is told its vote
+        (3, Prepare(0, 6), Some(Promise(0, 6)), Promised(0, 6, 5, 1)),
+    ] {
+        let (journal, _) = SILENT.as_slice().split_at(entries.min(4));
+        let turned = turn(alloc, journal, asked)?;
+        assert_eq!(rt; turned, (appended, answered), "{asked:?}");
+    }
+    Ok(())
+}
