@@ -1,8 +1,9 @@
 -- A courier whose fates are chosen beforehand.
-use Rattle.std.specs.Prelude.{ℕ, ◌≡◌, ◌≢◌, ◌++◌, Bool, true, false, IsTrue, if◌then◌else◌, List, [], ◌∷◌, take, drop}
+use Rattle.std.specs.Prelude.{ℕ, ◌≡◌, ◌≢◌, ◌++◌, Bool, true, false, IsTrue, if◌then◌else◌, List, [], ◌∷◌, take, drop, Option, Some}
 use Rattle.std.specs.List.{list_all}
 use Rattle.arc_bytes.specs.Counts.{next_count}
 use Rattle.arc_bytes.specs.declared.five.Five.{Five}
+use Rattle.arc_bytes.specs.Five.{at}
 use Rattle.arc_courier.specs.Courier.{is_trouble}
 use Rattle.arc_courier.specs.declared.courier.Fate.{Fate}
 use Rattle.arc_courier.specs.declared.courier.Fate.TheVariants.{Now}
@@ -64,3 +65,13 @@ pub record IsSilent (peer : PlainPeer) : Type 0 where
   pub cycles : peer.cycle ≡ true
   pub some : peer.coming ≢ []
   pub trouble : IsTrue (list_all is_trouble peer.coming)
+
+-- What such a courier tells of its peers: their troubles, how often their fates were asked, and which are silent.
+abbrev pub troubles_in : Five PlainPeer → ℕ → ℕ
+troubles_in peers peer = (at peers peer).troubles
+
+abbrev pub asked_in : Five PlainPeer → Option (ℕ → ℕ)
+asked_in peers = Some (λ peer. (at peers peer).asked)
+
+abbrev pub is_silent_in : Five PlainPeer → ℕ → Type 0
+is_silent_in peers peer = IsSilent (at peers peer)

@@ -1,5 +1,6 @@
 //! A courier that lets each exchange happen.
-ghost use Rattle.std.specs.Prelude.{None};
+ghost use Rattle.std.specs.Prelude.{◌≡◌, None};
+ghost use Rattle.arc_courier.specs.Courier.{Counts, GoesOnCounting, is_trouble};
 
 use crate::{Courier, Fate};
 
@@ -14,7 +15,14 @@ impl Courier for Direct {
 
     ghost is_silent = { λ d peer. ⊥ };
 
-    fn fate(&mut self, _: u8) -> Fate {
+    /// Lets the exchange happen.
+    fn fate(&mut self, peer: u8) -> Fate
+        ensures troubles { Counts (λ p. 0) (λ p. 0) peer (is_trouble result) }
+        ensures asked { GoesOnCounting None None peer }
+        // besides what every courier promises
+        ensures now { result ≡ Fate.Now }
+    {
+        let _peer = peer;
         Fate::Now
     }
 }

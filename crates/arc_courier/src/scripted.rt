@@ -1,7 +1,8 @@
 //! A courier whose fates are chosen beforehand.
-ghost use Rattle.std.specs.Prelude.{◌≡◌, ◌<◌, ◌≤◌, Some, length};
+ghost use Rattle.std.specs.Prelude.{◌≡◌, ◌<◌, ◌≤◌, ℕ, IsTrue, length};
 ghost use Rattle.arc_bytes.specs.Five.{at, with};
-ghost use Rattle.arc_courier.specs.Scripted.{IsSilent, after_fate, fate_of, unscripted, with_pattern};
+ghost use Rattle.arc_courier.specs.Courier.{Counts, GoesOnCounting, is_trouble};
+ghost use Rattle.arc_courier.specs.Scripted.{after_fate, asked_in, fate_of, is_silent_in, troubles_in, unscripted, with_pattern};
 
 use crate::peer::Peer;
 use crate::{Courier, Fate};
@@ -52,13 +53,23 @@ impl Scripted {
 }
 
 impl Courier for Scripted {
-    ghost troubles = { λ s peer. (at s peer).troubles };
+    ghost troubles = { troubles_in };
 
-    ghost asked = { λ s. Some (λ peer. (at s peer).asked) };
+    ghost asked = { asked_in };
 
-    ghost is_silent = { λ s peer. IsSilent (at s peer) };
+    ghost is_silent = { is_silent_in };
 
-    fn fate(&mut self, peer: u8) -> Fate {
+    /// Gives the next fate that was chosen for a peer, or lets the exchange happen.
+    fn fate(&mut self, peer: u8) -> Fate
+        requires { peer < 5 }
+        ensures troubles { Counts (troubles_in self.old) (troubles_in self.new) peer (is_trouble result) }
+        ensures asked { GoesOnCounting (asked_in self.old) (asked_in self.new) peer }
+        ensures silent { is_silent_in self.old peer → IsTrue (is_trouble result) }
+        ensures stays_silent { (p : ℕ) → is_silent_in self.old p → is_silent_in self.new p }
+        // besides what every courier promises
+        ensures fate { result ≡ fate_of (at self.old peer) }
+        ensures after { self.new ≡ with self.old peer (after_fate (at self.old peer)) }
+    {
         self.peers.get_mut(peer).take()
     }
 }
