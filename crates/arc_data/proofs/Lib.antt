@@ -1,3 +1,4 @@
 pub mod Keys
 pub mod Zones
 pub mod Promises
+pub mod Apart

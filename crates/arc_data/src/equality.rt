@@ -1,7 +1,10 @@
 //! Exact equality of plain data.
 ghost use Rattle.std.specs.Prelude.{◌≡◌, ◌↔◌, IsTrue};
 
-use crate::{Batch, Command, CommandId, ControlId, Entry, List, PanelId, Record, RuleId, Text};
+use crate::{
+    Batch, Command, CommandId, ControlId, Entry, List, PanelId, PracticeChange, PracticeConfig,
+    Record, ResourceId, RuleConfig, RuleId, RuleSpec, ShiftId, Status, Text, Window, ZoneName,
+};
 
 /// Data that can be compared exactly: two values are equal where a contract can't tell them apart.
 pub trait Equals {
@@ -25,6 +28,52 @@ impl Equals for ControlId {
 impl Equals for RuleId {
     fn equals(&self, other: &RuleId) -> bool {
         self.0 == other.0
+    }
+}
+
+impl Equals for ResourceId {
+    fn equals(&self, other: &ResourceId) -> bool {
+        self.0 == other.0
+    }
+}
+
+impl Equals for ShiftId {
+    fn equals(&self, other: &ShiftId) -> bool {
+        self.0 == other.0
+    }
+}
+
+impl Equals for u32 {
+    fn equals(&self, other: &u32) -> bool {
+        *self == *other
+    }
+}
+
+impl Equals for Status {
+    fn equals(&self, other: &Status) -> bool {
+        *self == *other
+    }
+}
+
+impl Equals for ZoneName {
+    fn equals(&self, other: &ZoneName) -> bool {
+        self.as_str() == other.as_str()
+    }
+}
+
+impl Equals for Window {
+    fn equals(&self, other: &Window) -> bool {
+        self.from == other.from && self.to == other.to
+    }
+}
+
+impl<T: Equals> Equals for Option<T> {
+    fn equals(&self, other: &Option<T>) -> bool {
+        match (self, other) {
+            (Some(left), Some(right)) => left.equals(right),
+            (None, None) => true,
+            _ => false,
+        }
     }
 }
 
@@ -70,6 +119,43 @@ impl Equals for Entry {
 impl Equals for Batch {
     fn equals(&self, other: &Batch) -> bool {
         self.entries.equals(&other.entries) && self.overrides.equals(&other.overrides)
+    }
+}
+
+impl Equals for RuleConfig {
+    fn equals(&self, other: &RuleConfig) -> bool {
+        self.kind == other.kind
+            && self.threshold == other.threshold
+            && self.inverted == other.inverted
+    }
+}
+
+impl Equals for RuleSpec {
+    fn equals(&self, other: &RuleSpec) -> bool {
+        self.name.equals(&other.name)
+            && self.panel.equals(&other.panel)
+            && self.controls.equals(&other.controls)
+            && self.targets.equals(&other.targets)
+            && self.config.equals(&other.config)
+            && self.wait_ms == other.wait_ms
+    }
+}
+
+impl Equals for PracticeConfig {
+    fn equals(&self, other: &PracticeConfig) -> bool {
+        self.blocked_dates.equals(&other.blocked_dates)
+            && self.blocked_windows.equals(&other.blocked_windows)
+            && self.blocking_alarms.equals(&other.blocking_alarms)
+            && self.outcome_alarms.equals(&other.outcome_alarms)
+    }
+}
+
+impl Equals for PracticeChange {
+    fn equals(&self, other: &PracticeChange) -> bool {
+        self.blocked_dates.equals(&other.blocked_dates)
+            && self.blocked_windows.equals(&other.blocked_windows)
+            && self.blocking_alarms.equals(&other.blocking_alarms)
+            && self.outcome_alarms.equals(&other.outcome_alarms)
     }
 }
 

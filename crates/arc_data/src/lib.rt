@@ -13,8 +13,10 @@
 
 mod batch;
 mod command;
+mod copies;
 mod entries;
 mod equality;
+mod limits;
 mod list;
 mod message;
 mod op;
@@ -52,6 +54,3 @@ pub use states::States;
 pub use text::Text;
 pub use valid::is_valid;
 pub use zone::ZoneName;
-
-#[cfg(test)]
-mod tests;

@@ -1,8 +1,11 @@
 //! Practice runs: how they are configured, what is kept of them, and what blocks them.
 ghost use Rattle.std.specs.Prelude.{◌≡◌, IfOk};
 
+use crate::copies::{copy_given_texts, copy_list, copy_texts};
 use crate::{List, ResourceId, ShiftId, Text, ZoneName};
+use arc_bytes::Memory;
 use arc_window::Window;
+use std::alloc::Global;
 
 /// What ended a practice run before its 30 minutes were over.
 #[derive(Clone, Copy, Debug, PartialEq, Eq)]
@@ -62,4 +65,32 @@ pub struct PracticeChange {
 pub struct Configured {
     pub resource: ResourceId,
     pub config: PracticeConfig,
+}
+
+impl PracticeConfig {
+    /// The same again.
+    pub fn copy(&self, alloc: Global) -> Result<PracticeConfig, Memory>
+        ensures { IfOk result (λ config. config ≡ self.now) }
+    {
+        Ok(PracticeConfig {
+            blocked_dates: self.blocked_dates.copy(alloc)?,
+            blocked_windows: self.blocked_windows.copy(alloc)?,
+            blocking_alarms: copy_texts(alloc, &self.blocking_alarms)?,
+            outcome_alarms: copy_texts(alloc, &self.outcome_alarms)?,
+        })
+    }
+}
+
+impl PracticeChange {
+    /// The same again.
+    pub fn copy(&self, alloc: Global) -> Result<PracticeChange, Memory>
+        ensures { IfOk result (λ change. change ≡ self.now) }
+    {
+        Ok(PracticeChange {
+            blocked_dates: copy_list(alloc, &self.blocked_dates)?,
+            blocked_windows: copy_list(alloc, &self.blocked_windows)?,
+            blocking_alarms: copy_given_texts(alloc, &self.blocking_alarms)?,
+            outcome_alarms: copy_given_texts(alloc, &self.outcome_alarms)?,
+        })
+    }
 }
