@@ -16,18 +16,15 @@ use Rattle.arc_command.specs.Spelling.{op_bytes, id_bytes, command_bytes}
 use Rattle.arc_command.specs.Typed.{IsTypedId, IsTyped}
 use Rattle.arc_data.specs.Valid.{IsInRange, IsValidCommand}
 use Rattle.arc_command.proofs.FieldLaws.{IsBytes, ok_is, IsField, pair_field, mapped_field, within_field}
-use Rattle.arc_command.proofs.NumberLaws.{uint_field, wide32}
+use Rattle.arc_command.proofs.KindLaws.{uint32, uint64}
 use Rattle.arc_command.proofs.ListLaws.{byte_field}
-use Rattle.arc_command.proofs.OpLaws.{IsSpellableOp, op_field, uint64}
+use Rattle.arc_command.proofs.OpLaws.{IsSpellableOp, op_field}
 
 abbrev done : {A : Type 0} → A → Result A ℕ
 done x = Ok x
 
 abbrev single : ℕ → List ℕ
 single b = b ∷ []
-
-pub uint32 : IsField (uint_at w32) (number_bytes w32) (λ (n : ℕ). n < 2 ^ 32)
-uint32 = uint_field w32 (2 ^ 32) wide32
 
 -- ---- the identifier
 
@@ -48,14 +45,8 @@ IsSpellableId id = IsInRange id × IsTypedId id
 
 id_field : IsField command_id_at id_bytes IsSpellableId
 unfolding command_id_at id_bytes
-id_field = mapped_field (λ (x : Parts). record { node = x.0; inc = x.1.0; n = x.1.1 }) (λ (id : CommandId). (id.node, (id.inc, id.n)))
-    (pair (within (λ (node : ℕ). nat_lt node 5) byte_at) (pair (within (λ (inc : ℕ). nat_le 1 inc) (uint_at w32)) (uint_at w32)))
-    (λ (x : Parts). single x.0 ++ (number_bytes w32 x.1.0 ++ number_bytes w32 x.1.1)) id_bytes AreParts IsSpellableId
-    (pair_field (within (λ (node : ℕ). nat_lt node 5) byte_at) (pair (within (λ (inc : ℕ). nat_le 1 inc) (uint_at w32)) (uint_at w32))
-    single (λ (y : ℕ × ℕ). number_bytes w32 y.0 ++ number_bytes w32 y.1) IsNode (λ (y : ℕ × ℕ). IsIncarnation y.0 × (y.1 < 2 ^ 32))
-    (within_field (λ (node : ℕ). nat_lt node 5) byte_at single (λ (b : ℕ). b < 256) byte_field)
-    (pair_field (within (λ (inc : ℕ). nat_le 1 inc) (uint_at w32)) (uint_at w32) (number_bytes w32) (number_bytes w32) IsIncarnation (λ (n : ℕ). n < 2 ^ 32)
-    (within_field (λ (inc : ℕ). nat_le 1 inc) (uint_at w32) (number_bytes w32) (λ (n : ℕ). n < 2 ^ 32) uint32) uint32))
+id_field = mapped_field (λ (x : Parts). record { node = x.0; inc = x.1.0; n = x.1.1 }) (λ (id : CommandId). (id.node, (id.inc, id.n))) id_bytes IsSpellableId
+    (pair_field (within_field (λ (node : ℕ). nat_lt node 5) byte_field) (pair_field (within_field (λ (inc : ℕ). nat_le 1 inc) uint32) uint32))
     (λ x f. refl)
     (λ x f. (record { node = ltb-true _ _ f.0.1; inc = leb-true _ _ f.1.0.1 }, (f.1.0.0, f.1.1)))
     (λ id is. let r : IsInRange id = is.0 in (refl, ((omega (arith, r.node), lt-ltb _ _ r.node), ((is.1.0, le-leb _ _ r.inc), is.1.1))))
@@ -66,13 +57,13 @@ abbrev IsVersion : ℕ → Type 0
 IsVersion b = (b < 256) × ((b == 1) ≡ true)
 
 version_field : IsField version_at single IsVersion
-version_field = within_field (λ (b : ℕ). b == 1) byte_at single (λ (b : ℕ). b < 256) byte_field
+version_field = within_field (λ (b : ℕ). b == 1) byte_field
 
 abbrev IsTime : ℕ → Type 0
 IsTime ms = (ms < 2 ^ 64) × (nat_le ms 253402300799999 ≡ true)
 
 time_field : IsField time_at (number_bytes w64) IsTime
-time_field = within_field (λ (ms : ℕ). nat_le ms 253402300799999) (uint_at w64) (number_bytes w64) (λ (n : ℕ). n < 2 ^ 64) uint64
+time_field = within_field (λ (ms : ℕ). nat_le ms 253402300799999) uint64
 
 abbrev AfterTime : Type 0
 AfterTime = ℕ × Op
@@ -82,19 +73,6 @@ AfterId = ℕ × AfterTime
 
 abbrev AfterVersion : Type 0
 AfterVersion = CommandId × AfterId
-
-token_pair : IsField (pair (uint_at w64) op_at) (λ (x : AfterTime). number_bytes w64 x.0 ++ op_bytes x.1) (λ (x : AfterTime). (x.0 < 2 ^ 64) × IsSpellableOp x.1)
-token_pair = pair_field (uint_at w64) op_at (number_bytes w64) op_bytes (λ (n : ℕ). n < 2 ^ 64) IsSpellableOp uint64 op_field
-
-time_pair : IsField (pair time_at (pair (uint_at w64) op_at)) (λ (x : AfterId). number_bytes w64 x.0 ++ (number_bytes w64 x.1.0 ++ op_bytes x.1.1))
-    (λ (x : AfterId). IsTime x.0 × ((x.1.0 < 2 ^ 64) × IsSpellableOp x.1.1))
-time_pair = pair_field time_at (pair (uint_at w64) op_at) (number_bytes w64) (λ (x : AfterTime). number_bytes w64 x.0 ++ op_bytes x.1) IsTime (λ (x : AfterTime). (x.0 < 2 ^ 64) × IsSpellableOp x.1) time_field token_pair
-
-id_pair : IsField (pair command_id_at (pair time_at (pair (uint_at w64) op_at)))
-    (λ (x : AfterVersion). id_bytes x.0 ++ (number_bytes w64 x.1.0 ++ (number_bytes w64 x.1.1.0 ++ op_bytes x.1.1.1)))
-    (λ (x : AfterVersion). IsSpellableId x.0 × (IsTime x.1.0 × ((x.1.1.0 < 2 ^ 64) × IsSpellableOp x.1.1.1)))
-id_pair = pair_field command_id_at (pair time_at (pair (uint_at w64) op_at)) id_bytes (λ (x : AfterId). number_bytes w64 x.0 ++ (number_bytes w64 x.1.0 ++ op_bytes x.1.1))
-    IsSpellableId (λ (x : AfterId). IsTime x.0 × ((x.1.0 < 2 ^ 64) × IsSpellableOp x.1.1)) id_field time_pair
 
 abbrev Whole : Type 0
 Whole = ℕ × AfterVersion
@@ -135,11 +113,8 @@ whole_back c is =
 
 pub command_field : IsField command_at command_bytes IsSpellable
 unfolding command_at
-command_field = mapped_field made_of parts_of_command (pair version_at (pair command_id_at (pair time_at (pair (uint_at w64) op_at)))) text_of_whole command_bytes IsWhole IsSpellable
-    (pair_field version_at (pair command_id_at (pair time_at (pair (uint_at w64) op_at))) single
-    (λ (x : AfterVersion). id_bytes x.0 ++ (number_bytes w64 x.1.0 ++ (number_bytes w64 x.1.1.0 ++ op_bytes x.1.1.1))) IsVersion
-    (λ (x : AfterVersion). IsSpellableId x.0 × (IsTime x.1.0 × ((x.1.1.0 < 2 ^ 64) × IsSpellableOp x.1.1.1))) version_field id_pair)
-    whole_text whole_fits whole_back
+command_field = mapped_field made_of parts_of_command command_bytes IsSpellable
+    (pair_field version_field (pair_field id_field (pair_field time_field (pair_field uint64 op_field)))) whole_text whole_fits whole_back
 
 -- ---- whole spellings
 

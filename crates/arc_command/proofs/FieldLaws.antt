@@ -2,7 +2,7 @@
 use Rattle.std.proofs.Common.{◌≡◌, ℕ, ◌+◌, ◌<◌, Bool, true, false, cond, List, ◌++◌, length, get_or, take, drop, Result, Ok, Err, refl, sym, ap, subst, ◌∙◌, append_assoc, arith, inl, inr}
 use Rattle.std.proofs.lemmas.Bool.{cases_lt}
 use Rattle.std.proofs.lemmas.List.{drop_at, drop-drop, length-append, get_or-drop, get_or-take, get_or_past, length-take}
-use Rattle.arc_command.specs.Reader.{Reader, ◌>>=◌, pair, mapped, within}
+use Rattle.arc_command.specs.Reader.{Reader, ◌>>=◌, pair, depends, mapped, within}
 
 -- each is a byte
 abbrev pub IsBytes : List ℕ → Type 0
@@ -68,25 +68,34 @@ Stands-then bytes at a middle b after p q = record {
 
 -- ---- one after the other
 
-pub pair_field : {A B : Type 0} (first : Reader A) (second : Reader B) (t : A → List ℕ) (u : B → List ℕ)
-    (F : A → Type 0) (G : B → Type 0) → IsField first t F → IsField second u G →
-    IsField (pair first second) (λ (x : A × B). t x.0 ++ u x.1) (λ (x : A × B). F x.0 × G x.1)
-pair_field {A = A} {B = B} first second t u F G p q = record {
+-- the second in view of the first
+pub depends_field : {A B : Type 0} {first : Reader A} {second : A → Reader B} {t : A → List ℕ} {u : B → List ℕ}
+    {F : A → Type 0} {G : A → B → Type 0} → IsField first t F → ((a : A) → F a → IsField (second a) u (G a)) →
+    IsField (depends first second) (λ (x : A × B). t x.0 ++ u x.1) (λ (x : A × B). F x.0 × G x.0 x.1)
+depends_field {A = A} {B = B} {first = first} {second = second} {t = t} {u = u} {F = F} {G = G} p q = record {
   taken = λ bytes at x after are e.
-      let a = bind_ok (first bytes at) (λ (x : A × ℕ). second bytes x.1 >>= λ (y : B × ℕ). Ok ((x.0, y.0), y.1)) (x, after) e in
-      let b = bind_ok (second bytes a.0.1) (λ (y : B × ℕ). Ok ((a.0.0, y.0), y.1)) (x, after) a.2 in
+      let a = bind_ok (first bytes at) (λ (x : A × ℕ). second x.0 bytes x.1 >>= λ (y : B × ℕ). Ok ((x.0, y.0), y.1)) (x, after) e in
+      let b = bind_ok (second a.0.0 bytes a.0.1) (λ (y : B × ℕ). Ok ((a.0.0, y.0), y.1)) (x, after) a.2 in
       let s = p.taken bytes at a.0.0 a.0.1 are a.1 in
-      let z = q.taken bytes a.0.1 b.0.0 b.0.1 are b.1 in
+      let next : IsField (second a.0.0) u (G a.0.0) = q a.0.0 s.1 in
+      let z = next.taken bytes a.0.1 b.0.0 b.0.1 are b.1 in
       let whole = Stands-then bytes at (t a.0.0) a.0.1 (u b.0.0) b.0.1 s.0 z.0 in
       let made : (A × B) × ℕ = ((a.0.0, b.0.0), b.0.1) in
-      subst (λ (y : (A × B) × ℕ). Stands bytes at (t y.0.0 ++ u y.0.1) y.1 × (F y.0.0 × G y.0.1)) (ok_is made (x, after) b.2) (whole, (s.1, z.1));
+      subst (λ (y : (A × B) × ℕ). Stands bytes at (t y.0.0 ++ u y.0.1) y.1 × (F y.0.0 × G y.0.0 y.0.1)) (ok_is made (x, after) b.2) (whole, (s.1, z.1));
   again = λ bytes at x rest fits e.
       let whole : drop at bytes ≡ t x.0 ++ (u x.1 ++ rest) = e ∙ append_assoc (t x.0) (u x.1) rest in
       let one = p.again bytes at x.0 (u x.1 ++ rest) fits.0 whole in
-      let two = q.again bytes (at + length (t x.0)) x.1 rest fits.1 (behind_text bytes at (t x.0) (u x.1 ++ rest) whole) in
+      let next : IsField (second x.0) u (G x.0) = q x.0 fits.0 in
+      let two = next.again bytes (at + length (t x.0)) x.1 rest fits.1 (behind_text bytes at (t x.0) (u x.1 ++ rest) whole) in
       let place : (at + length (t x.0)) + length (u x.1) ≡ at + length (t x.0 ++ u x.1) = omega (arith, length-append (t x.0) (u x.1)) in
       rw (one, two) (ap (λ (n : ℕ). done (x, n)) place);
 }
+
+pub pair_field : {A B : Type 0} {first : Reader A} {second : Reader B} {t : A → List ℕ} {u : B → List ℕ}
+    {F : A → Type 0} {G : B → Type 0} → IsField first t F → IsField second u G →
+    IsField (pair first second) (λ (x : A × B). t x.0 ++ u x.1) (λ (x : A × B). F x.0 × G x.1)
+pair_field {A = A} {B = B} {first = first} {second = second} {t = t} {u = u} {F = F} {G = G} p q =
+    depends_field {A = A} {B = B} {first = first} {second = λ (a : A). second} {t = t} {u = u} {F = F} {G = λ (a : A). G} p (λ a f. q)
 
 -- ---- what is made of a value
 
@@ -105,10 +114,10 @@ pub mapped_again : {A B : Type 0} (f : A → B) (read : Reader A) (t : A → Lis
 mapped_again f read t F again bytes at x rest fits e = rw (again bytes at x rest fits e) refl
 
 -- where each fitting value is made of one
-pub mapped_field : {A B : Type 0} (f : A → B) (g : B → A) (read : Reader A) (t : A → List ℕ) (u : B → List ℕ) (F : A → Type 0) (G : B → Type 0) →
+pub mapped_field : {A B : Type 0} {read : Reader A} {t : A → List ℕ} {F : A → Type 0} (f : A → B) (g : B → A) (u : B → List ℕ) (G : B → Type 0) →
     IsField read t F → ((x : A) → F x → u (f x) ≡ t x) → ((x : A) → F x → G (f x)) →
     ((y : B) → G y → (f (g y) ≡ y) × F (g y)) → IsField (mapped f read) u G
-mapped_field {A = A} {B = B} f g read t u F G field texts fits back = record {
+mapped_field {A = A} {B = B} {read = read} {t = t} {F = F} f g u G field texts fits back = record {
   taken = mapped_taken f read t u F G field.taken texts fits;
   again = λ bytes at y rest is e.
       let b = back y is in
@@ -117,11 +126,19 @@ mapped_field {A = A} {B = B} f g read t u F G field texts fits back = record {
       one ∙ ap (λ (z : B). done (z, at + length (t (g y)))) b.0 ∙ ap (λ (w : List ℕ). done (y, at + length w)) (sym same);
 }
 
+-- what fits, in other words
+pub refit : {A : Type 0} {read : Reader A} {t : A → List ℕ} {F : A → Type 0} (G : A → Type 0) → IsField read t F →
+    ((x : A) → F x → G x) → ((x : A) → G x → F x) → IsField read t G
+refit G field to from = record {
+  taken = λ bytes at x after are e. let s = field.taken bytes at x after are e in (s.0, to x s.1);
+  again = λ bytes at x rest fits e. field.again bytes at x rest (from x fits) e;
+}
+
 -- ---- limits
 
-pub within_field : {A : Type 0} (ok : A → Bool) (read : Reader A) (t : A → List ℕ) (F : A → Type 0) →
+pub within_field : {A : Type 0} {read : Reader A} {t : A → List ℕ} {F : A → Type 0} (ok : A → Bool) →
     IsField read t F → IsField (within ok read) t (λ (x : A). F x × (ok x ≡ true))
-within_field {A = A} ok read t F field = record {
+within_field {A = A} {read = read} {t = t} {F = F} ok field = record {
   taken = λ bytes at x after are e.
       let a = bind_ok (read bytes at) (λ (x : A × ℕ). cond (ok x.0) (Ok x) (Err at)) (x, after) e in
       let s = field.taken bytes at a.0.0 a.0.1 are a.1 in

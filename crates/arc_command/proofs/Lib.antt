@@ -5,6 +5,11 @@ pub mod Lengths
 pub mod FieldLaws
 pub mod NumberLaws
 pub mod ListLaws
+pub mod Doubles
+pub mod KindLaws
+pub mod BatchLaws
+pub mod RuleLaws
+pub mod PracticeLaws
 pub mod OpLaws
 pub mod CommandLaws
 pub mod RecordLaws

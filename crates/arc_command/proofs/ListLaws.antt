@@ -1,18 +1,18 @@
 -- Bytes, texts and lists as fields.
 use Rattle.std.proofs.Common.{◌≡◌, ℕ, zero, suc, ◌+◌, ◌-◌, ◌^◌, ◌<◌, ◌≤◌, ◌&&◌, Bool, true, false, nat_le, List, [], ◌∷◌, ◌++◌, length, get_or, take, drop, Option, Some, None, Result, Ok, refl, sym, ap, subst, ◌∙◌, append_assoc, add-one, add-zero, arith}
 use Rattle.std.specs.Int.{w16}
-use Rattle.std.specs.List.{flat_map, slice_get, AllByRecursion}
+use Rattle.std.specs.List.{flat_map, slice_get}
 use Rattle.std.specs.Str.{IsUtf8, is_utf8}
 use Rattle.std.proofs.Math.Seq.{drop-cons}
 use Rattle.std.proofs.lemmas.Bool.{leb-true, le-leb}
-use Rattle.std.proofs.lemmas.List.{take_at, drop-drop, take-append-drop, length-append, length-drop, length-take}
+use Rattle.std.proofs.lemmas.List.{take_at, drop-drop, take-append-drop, length-append, append-nil, length-drop, length-take}
 use Rattle.std.proofs.lemmas.List.Concat.{flat_map-cons}
 use Rattle.std.proofs.lemmas.Option.{get_or_from_slice_get, slice_get_within}
 use Rattle.std.proofs.lemmas.Str.{IsUtf8-from_is_utf8, is_utf8-from_IsUtf8}
 use Rattle.arc_bytes.specs.Numbers.{number_bytes}
 use Rattle.arc_command.specs.Reader.{Reader, ◌>>=◌, byte_at, given, uint_at, text_at, text_of, items_at, list_at, within}
 use Rattle.arc_command.specs.Spelling.{text_bytes, list_bytes}
-use Rattle.arc_command.proofs.FieldLaws.{bind_ok, passed, ok_is, Stands, Stands-then, Taken, Again, IsField, behind_text, within_field}
+use Rattle.arc_command.proofs.FieldLaws.{IsBytes, bind_ok, passed, ok_is, Stands, Stands-then, Taken, Again, IsField, behind_text, within_field}
 use Rattle.arc_command.proofs.NumberLaws.{uint_field, wide16}
 
 abbrev done : {A : Type 0} → A → Result A ℕ
@@ -98,65 +98,75 @@ text_field least most small = record {
 
 -- ---- lists
 
-items_taken : {A : Type 0} (item : Reader A) (t : A → List ℕ) (F : A → Type 0) → Taken item t F →
-    (n : ℕ) → Taken (items_at item n) (flat_map t) (λ (xs : List A). (length xs ≡ n) × AllByRecursion F xs)
-unfolding items_at
-items_taken {A = A} item t F taken zero bytes at xs after are e =
-    subst (λ (y : List A × ℕ). Stands bytes at (flat_map t y.0) y.1 × ((length y.0 ≡ 0) × AllByRecursion F y.0)) (ok_is ([], at) (xs, after) e)
-    (record { parts = refl; place = sym (add-zero at) }, (refl, tt))
-items_taken {A = A} item t F taken (suc n) bytes at xs after are e =
-    let a = bind_ok (item bytes at) (λ (first : A × ℕ). items_at item n bytes first.1 >>= λ (others : List A × ℕ). Ok (first.0 ∷ others.0, others.1)) (xs, after) e in
-    let b = bind_ok (items_at item n bytes a.0.1) (λ (others : List A × ℕ). Ok (a.0.0 ∷ others.0, others.1)) (xs, after) a.2 in
-    let first = taken bytes at a.0.0 a.0.1 are a.1 in
-    let second = items_taken item t F taken n bytes a.0.1 b.0.0 b.0.1 are b.1 in
-    let both = Stands-then bytes at (t a.0.0) a.0.1 (flat_map t b.0.0) b.0.1 first.0 second.0 in
-    let made : List A × ℕ = (a.0.0 ∷ b.0.0, b.0.1) in
-    subst (λ (y : List A × ℕ). Stands bytes at (flat_map t y.0) y.1 × ((length y.0 ≡ suc n) × AllByRecursion F y.0)) (ok_is made (xs, after) b.2)
-    (rw flat_map-cons both, (ap suc second.1.0, (first.1, second.1.1)))
+-- each fits, in view of the earlier ones
+abbrev pub AllAfter : {A : Type 0} → (List A → A → Type 0) → List A → List A → Type 0
+AllAfter G earlier [] = Unit {0}
+AllAfter G earlier (x ∷ xs) = G earlier x × AllAfter G (earlier ++ x ∷ []) xs
 
-items_again : {A : Type 0} (item : Reader A) (t : A → List ℕ) (F : A → Type 0) → Again item t F →
-    (bytes : List ℕ) (at : ℕ) (xs : List A) (rest : List ℕ) → AllByRecursion F xs → drop at bytes ≡ flat_map t xs ++ rest →
-    items_at item (length xs) bytes at ≡ Ok (xs, at + length (flat_map t xs))
+abbrev AreFields : {A : Type 0} → (List A → Reader A) → (A → List ℕ) → (List A → A → Type 0) → Type 0
+AreFields {A = A} item t G = (earlier : List A) → IsField (item earlier) t (G earlier)
+
+items_taken : {A : Type 0} (item : List A → Reader A) (t : A → List ℕ) (G : List A → A → Type 0) → AreFields item t G →
+    (n : ℕ) (earlier : List A) (bytes : List ℕ) (at : ℕ) (all : List A) (after : ℕ) → IsBytes bytes →
+    items_at item earlier n bytes at ≡ Ok (all, after) →
+    (xs : List A) × (earlier ++ xs ≡ all) × Stands bytes at (flat_map t xs) after × (length xs ≡ n) × AllAfter G earlier xs
 unfolding items_at
-items_again {A = A} item t F again bytes at [] rest fits e =
-    ap (λ (n : ℕ). let made : List A × ℕ = ([], n) in done made) (sym (add-zero at))
-items_again {A = A} item t F again bytes at (x ∷ xs) rest fits e =
+items_taken {A = A} item t G fields zero earlier bytes at all after are e =
+    subst (λ (y : List A × ℕ). (xs : List A) × (earlier ++ xs ≡ y.0) × Stands bytes at (flat_map t xs) y.1 × (length xs ≡ 0) × AllAfter G earlier xs) (ok_is (earlier, at) (all, after) e)
+    ([], append-nil earlier, record { parts = refl; place = sym (add-zero at) }, refl, tt)
+items_taken {A = A} item t G fields (suc n) earlier bytes at all after are e =
+    let a = bind_ok (item earlier bytes at) (λ (x : A × ℕ). items_at item (earlier ++ x.0 ∷ []) n bytes x.1) (all, after) e in
+    let field : IsField (item earlier) t (G earlier) = fields earlier in
+    let first = field.taken bytes at a.0.0 a.0.1 are a.1 in
+    let others = items_taken item t G fields n (earlier ++ a.0.0 ∷ []) bytes a.0.1 all after are a.2 in
+    let both = Stands-then bytes at (t a.0.0) a.0.1 (flat_map t others.0) after first.0 others.2 in
+    (a.0.0 ∷ others.0, sym (append_assoc earlier (a.0.0 ∷ []) others.0) ∙ others.1, rw flat_map-cons both, ap suc others.3, (first.1, others.4))
+
+items_again : {A : Type 0} (item : List A → Reader A) (t : A → List ℕ) (G : List A → A → Type 0) → AreFields item t G →
+    (earlier : List A) (bytes : List ℕ) (at : ℕ) (xs : List A) (rest : List ℕ) → AllAfter G earlier xs → drop at bytes ≡ flat_map t xs ++ rest →
+    items_at item earlier (length xs) bytes at ≡ Ok (earlier ++ xs, at + length (flat_map t xs))
+unfolding items_at
+items_again {A = A} item t G fields earlier bytes at [] rest fits e =
+    ap (λ (xs : List A). done (xs, at)) (sym (append-nil earlier)) ∙ ap (λ (n : ℕ). done (earlier ++ [], n)) (sym (add-zero at))
+items_again {A = A} item t G fields earlier bytes at (x ∷ xs) rest fits e =
     let split : drop at bytes ≡ t x ++ (flat_map t xs ++ rest) =
     e ∙ ap (λ (w : List ℕ). w ++ rest) (flat_map-cons t x xs) ∙ append_assoc (t x) (flat_map t xs) rest in
-    let one = again bytes at x (flat_map t xs ++ rest) fits.0 split in
-    let two = items_again item t F again bytes (at + length (t x)) xs rest fits.1 (behind_text bytes at (t x) (flat_map t xs ++ rest) split) in
+    let field : IsField (item earlier) t (G earlier) = fields earlier in
+    let one = field.again bytes at x (flat_map t xs ++ rest) fits.0 split in
+    let two = items_again item t G fields (earlier ++ x ∷ []) bytes (at + length (t x)) xs rest fits.1 (behind_text bytes at (t x) (flat_map t xs ++ rest) split) in
     let place : (at + length (t x)) + length (flat_map t xs) ≡ at + length (flat_map t (x ∷ xs)) =
     omega (arith, ap length (flat_map-cons t x xs), length-append (t x) (flat_map t xs)) in
-    rw (one, two) (ap (λ (n : ℕ). done (x ∷ xs, n)) place)
+    rw one (two ∙ ap (λ (ys : List A). done (ys, (at + length (t x)) + length (flat_map t xs))) (append_assoc earlier (x ∷ []) xs) ∙ ap (λ (n : ℕ). done (earlier ++ x ∷ xs, n)) place)
 
-abbrev pub IsListOf : {A : Type 0} → ℕ → ℕ → (A → Type 0) → List A → Type 0
-IsListOf least most F xs = (least ≤ length xs) × (length xs ≤ most) × AllByRecursion F xs
+abbrev pub IsListOf : {A : Type 0} → ℕ → ℕ → (List A → A → Type 0) → List A → Type 0
+IsListOf least most G xs = (least ≤ length xs) × (length xs ≤ most) × AllAfter G [] xs
 
-both_tests : (a b : Bool) → (a && b) ≡ true → (a ≡ true) × (b ≡ true)
+pub both_tests : (a b : Bool) → (a && b) ≡ true → (a ≡ true) × (b ≡ true)
 both_tests true true e = (refl, refl)
 both_tests true false e = absurd cc
 both_tests false b e = absurd cc
 
-pub list_field : {A : Type 0} (least most : ℕ) → most < 2 ^ 16 → (item : Reader A) (t : A → List ℕ) (F : A → Type 0) → IsField item t F →
-    IsField (list_at least most item) (list_bytes t) (IsListOf least most F)
+pub list_field : {A : Type 0} (least most : ℕ) → most < 2 ^ 16 → (item : List A → Reader A) (t : A → List ℕ) (G : List A → A → Type 0) →
+    ((earlier : List A) → IsField (item earlier) t (G earlier)) → IsField (list_at least most item) (list_bytes t) (IsListOf least most G)
 unfolding list_at list_bytes
-list_field {A = A} least most small item t F field =
-    let count_field = within_field (λ (count : ℕ). nat_le least count && nat_le count most) (uint_at w16) (number_bytes w16) (λ (n : ℕ). n < 2 ^ 16) (uint_field w16 (2 ^ 16) wide16) in
+list_field {A = A} least most small item t G fields =
+    let count_field = within_field (λ (count : ℕ). nat_le least count && nat_le count most) (uint_field w16 (2 ^ 16) wide16) in
     record {
       taken = λ bytes at xs after are e.
-          let a = bind_ok (within (λ (count : ℕ). nat_le least count && nat_le count most) (uint_at w16) bytes at) (λ (count : ℕ × ℕ). items_at item count.0 bytes count.1) (xs, after) e in
+          let a = bind_ok (within (λ (count : ℕ). nat_le least count && nat_le count most) (uint_at w16) bytes at) (λ (count : ℕ × ℕ). items_at item [] count.0 bytes count.1) (xs, after) e in
           let s = count_field.taken bytes at a.0.0 a.0.1 are a.1 in
           let two = both_tests (nat_le least a.0.0) (nat_le a.0.0 most) s.1.1 in
-          let z = items_taken item t F field.taken a.0.0 bytes a.0.1 xs after are a.2 in
-          let both = Stands-then bytes at (number_bytes w16 a.0.0) a.0.1 (flat_map t xs) after s.0 z.0 in
-          let whole : Stands bytes at (number_bytes w16 (length xs) ++ flat_map t xs) after =
-          subst (λ (k : ℕ). Stands bytes at (number_bytes w16 k ++ flat_map t xs) after) (sym z.1.0) both in
-          (whole, (rw z.1.0 (leb-true _ _ two.0), rw z.1.0 (leb-true _ _ two.1), z.1.1));
+          let z = items_taken item t G fields a.0.0 [] bytes a.0.1 xs after are a.2 in
+          let both = Stands-then bytes at (number_bytes w16 a.0.0) a.0.1 (flat_map t z.0) after s.0 z.2 in
+          let whole : Stands bytes at (number_bytes w16 (length z.0) ++ flat_map t z.0) after =
+          subst (λ (k : ℕ). Stands bytes at (number_bytes w16 k ++ flat_map t z.0) after) (sym z.3) both in
+          subst (λ (ys : List A). Stands bytes at (number_bytes w16 (length ys) ++ flat_map t ys) after × IsListOf least most G ys) z.1
+          (whole, (rw z.3 (leb-true _ _ two.0), rw z.3 (leb-true _ _ two.1), z.4));
       again = λ bytes at xs rest fits e.
           let split : drop at bytes ≡ number_bytes w16 (length xs) ++ (flat_map t xs ++ rest) = e ∙ append_assoc (number_bytes w16 (length xs)) (flat_map t xs) rest in
           let within_limits : (nat_le least (length xs) && nat_le (length xs) most) ≡ true = rw (le-leb _ _ fits.0, le-leb _ _ fits.1) refl in
           let one = count_field.again bytes at (length xs) (flat_map t xs ++ rest) (omega (arith, fits.1, small), within_limits) split in
-          let two = items_again item t F field.again bytes (at + length (number_bytes w16 (length xs))) xs rest fits.2 (behind_text bytes at (number_bytes w16 (length xs)) (flat_map t xs ++ rest) split) in
+          let two = items_again item t G fields [] bytes (at + length (number_bytes w16 (length xs))) xs rest fits.2 (behind_text bytes at (number_bytes w16 (length xs)) (flat_map t xs ++ rest) split) in
           let place : (at + length (number_bytes w16 (length xs))) + length (flat_map t xs) ≡ at + length (number_bytes w16 (length xs) ++ flat_map t xs) =
           omega (arith, length-append (number_bytes w16 (length xs)) (flat_map t xs)) in
           rw one (two ∙ ap (λ (n : ℕ). done (xs, n)) place);

@@ -1,5 +1,5 @@
 -- The fields of entries of journals, and what follows for whole bodies.
-use Rattle.std.proofs.Common.{◌≡◌, ℕ, ◌+◌, ◌^◌, ◌<◌, ◌==◌, Bool, true, false, cond, List, [], ◌∷◌, ◌++◌, length, drop, Result, Ok, Err, refl, sym, ap, subst, ◌∙◌, append_assoc, zero-add, eq-eqb, arith, lit<}
+use Rattle.std.proofs.Common.{◌≡◌, ℕ, ◌+◌, ◌^◌, ◌<◌, ◌==◌, Bool, true, false, cond, List, [], ◌∷◌, ◌++◌, length, drop, Result, Ok, Err, refl, sym, ap, subst, ◌∙◌, append_assoc, zero-add, eq-eqb, arith, lit<, inl, inr, ◌⊎◌}
 use Rattle.std.specs.Prelude.{IfOk}
 use Rattle.std.specs.Int.{w32, w64}
 use Rattle.std.proofs.lemmas.Bool.{eqb-true}
@@ -10,15 +10,59 @@ use Rattle.arc_data.specs.declared.command.Command.{Command}
 use Rattle.arc_data.specs.declared.record.Record.{Record}
 use Rattle.arc_data.specs.declared.record.Record.TheVariants.{Opened, Promised, Voted, Closed}
 use Rattle.arc_command.specs.Laws.{IsSpellable, IsSpellableRecord, ReadsEntries, EntriesHaveOneSpelling}
-use Rattle.arc_command.specs.Reader.{pair, uint_at, tagged, nothing}
+use Rattle.arc_command.specs.Reader.{Reader, pair, byte_at, uint_at, tagged, nothing}
 use Rattle.arc_command.specs.Reading.{Gives, command_at, opened_at, promised_at, voted_at, closed_at, record_at, body_of}
 use Rattle.arc_command.specs.Spelling.{command_bytes, kind_of, parts_of, record_bytes}
-use Rattle.arc_command.proofs.FieldLaws.{IsBytes, bind_ok, ok_is, Taken, Again, IsField, pair_field, mapped_taken, mapped_again}
-use Rattle.arc_command.proofs.OpLaws.{tagged_taken, tagged_here, tagged_past, nothing_taken, uint64}
-use Rattle.arc_command.proofs.CommandLaws.{uint32, command_field}
+use Rattle.arc_command.proofs.FieldLaws.{IsBytes, bind_ok, ok_is, Stands, Stands-then, Taken, Again, IsField, behind_text, pair_field, mapped_taken, mapped_again}
+use Rattle.arc_command.proofs.ListLaws.{byte_field}
+use Rattle.arc_command.proofs.KindLaws.{uint32, uint64}
+use Rattle.arc_command.proofs.CommandLaws.{command_field}
 
 abbrev done : {A : Type 0} → A → Result A ℕ
 done x = Ok x
+
+-- ---- choices by a number
+
+chosen : {A : Type 0} (b : Bool) (x y z : Result A ℕ) → cond b x y ≡ z → ((b ≡ true) × (x ≡ z)) ⊎ ((b ≡ false) × (y ≡ z))
+chosen true x y z e = inl (refl, e)
+chosen false x y z e = inr (refl, e)
+
+-- what is read behind the number, or by another choice, stands there
+tagged_taken : {A : Type 0} (tag : ℕ) (tags : A → ℕ) (parts : A → List ℕ) (F : A → Type 0) (fields others : Reader A) →
+    Taken fields parts (λ (x : A). (tags x ≡ tag) × F x) → Taken others (λ (x : A). tags x ∷ parts x) F →
+    Taken (tagged tag fields others) (λ (x : A). tags x ∷ parts x) F
+tagged_taken {A = A} tag tags parts F fields others taken rest bytes at x after are e =
+    let a = bind_ok (byte_at bytes at) (λ (b : ℕ × ℕ). cond (b.0 == tag) (fields bytes b.1) (others bytes at)) (x, after) e in
+    elim (chosen (a.0.0 == tag) (fields bytes a.0.1) (others bytes at) (Ok (x, after)) a.2) [
+      | inl w ↦
+          let s = byte_field.taken bytes at a.0.0 a.0.1 are a.1 in
+          let z = taken bytes a.0.1 x after are w.1 in
+          let both = Stands-then bytes at (a.0.0 ∷ []) a.0.1 (parts x) after s.0 z.0 in
+          let same : a.0.0 ≡ tags x = eqb-true _ _ w.0 ∙ sym z.1.0 in
+          (subst (λ (b : ℕ). Stands bytes at (b ∷ parts x) after) same both, z.1.1)
+      | inr w ↦ rest bytes at x after are w.1
+    ]
+
+nothing_taken : {A : Type 0} (text : A → List ℕ) (F : A → Type 0) → Taken nothing text F
+nothing_taken text F bytes at x after are e = absurd cc
+
+-- the number is there
+tagged_here : {A : Type 0} (tag : ℕ) (fields others : Reader A) (bytes : List ℕ) (at : ℕ) (x : A) (text rest : List ℕ) → tag < 256 →
+    (tag == tag) ≡ true → drop at bytes ≡ tag ∷ (text ++ rest) →
+    (drop (at + 1) bytes ≡ text ++ rest → fields bytes (at + 1) ≡ Ok (x, (at + 1) + length text)) →
+    tagged tag fields others bytes at ≡ Ok (x, at + length (tag ∷ text))
+tagged_here tag fields others bytes at x text rest lt is e again =
+    let one = byte_field.again bytes at tag (text ++ rest) lt e in
+    let next : drop (at + 1) bytes ≡ text ++ rest = behind_text bytes at (tag ∷ []) (text ++ rest) e in
+    let two = again next in
+    rw (one, is, two) (ap (λ (n : ℕ). done (x, n)) (omega arith))
+
+-- another number is there
+tagged_past : {A : Type 0} (tag other : ℕ) (fields others : Reader A) (bytes : List ℕ) (at : ℕ) (rest : List ℕ) → other < 256 →
+    (other == tag) ≡ false → drop at bytes ≡ other ∷ rest → tagged tag fields others bytes at ≡ others bytes at
+tagged_past tag other fields others bytes at rest lt isnt e = rw (byte_field.again bytes at other rest lt e, isnt) refl
+
+-- ---- the parts of entries
 
 abbrev text32 : ℕ → List ℕ
 text32 n = number_bytes w32 n
@@ -43,7 +87,7 @@ opened_taken = mapped_taken Opened (uint_at w32) text32 parts_of Is32 (IsKind 1)
     (λ x f. refl) (λ x f. (refl, record { valid = tt; typed = f }))
 
 promised_pair : IsField (pair (uint_at w32) (uint_at w64)) (λ (x : ℕ × ℕ). text32 x.0 ++ text64 x.1) (λ (x : ℕ × ℕ). Is32 x.0 × Is64 x.1)
-promised_pair = pair_field (uint_at w32) (uint_at w64) text32 text64 Is32 Is64 uint32 uint64
+promised_pair = pair_field uint32 uint64
 
 promised_taken : Taken promised_at parts_of (IsKind 2)
 unfolding promised_at parts_of
@@ -60,8 +104,7 @@ abbrev IsVote : Vote → Type 0
 IsVote x = Is32 x.0 × (Is64 x.1.0 × IsSpellable x.1.1)
 
 voted_pair : IsField (pair (uint_at w32) (pair (uint_at w64) command_at)) vote_text IsVote
-voted_pair = pair_field (uint_at w32) (pair (uint_at w64) command_at) text32 (λ (x : ℕ × Command). text64 x.0 ++ command_bytes x.1) Is32 (λ (x : ℕ × Command). Is64 x.0 × IsSpellable x.1) uint32
-    (pair_field (uint_at w64) command_at text64 command_bytes Is64 IsSpellable uint64 command_field)
+voted_pair = pair_field uint32 (pair_field uint64 command_field)
 
 voted_taken : Taken voted_at parts_of (IsKind 3)
 unfolding voted_at parts_of
@@ -69,7 +112,7 @@ voted_taken = mapped_taken (λ (x : Vote). Voted x.0 x.1.0 x.1.1) (pair (uint_at
     (λ x f. append_assoc (text32 x.0) (text64 x.1.0) (command_bytes x.1.1)) (λ x f. (refl, record { valid = f.1.1.valid; typed = (f.0, f.1.0, f.1.1.typed) }))
 
 closed_pair : IsField (pair (uint_at w32) command_at) (λ (x : ℕ × Command). text32 x.0 ++ command_bytes x.1) (λ (x : ℕ × Command). Is32 x.0 × IsSpellable x.1)
-closed_pair = pair_field (uint_at w32) command_at text32 command_bytes Is32 IsSpellable uint32 command_field
+closed_pair = pair_field uint32 command_field
 
 closed_taken : Taken closed_at parts_of (IsKind 4)
 unfolding closed_at parts_of

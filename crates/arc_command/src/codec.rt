@@ -10,6 +10,7 @@ ghost use Rattle.arc_data.specs.Valid.{IsValidCommand, IsValidRecord};
 
 use crate::command_bytes::{put_command, read_command};
 use crate::record_bytes::{put_record, read_record};
+use crate::zones::{zones_are_short, zones_in_are_short};
 use crate::{Command, CommandEnd, Record};
 use arc_bytes::Memory;
 use std::alloc::Global;
@@ -31,6 +32,7 @@ pub fn encode(c: &Command, out: &mut Vec<u8>) -> Result<(), Memory>
     ensures room { length out.old.items + 1024 ≤ vec_capacity out.old → IsOk result }
     ensures capacity { vec_capacity out.old ≤ vec_capacity out.new }
 {
+    zones_are_short(&c.op);
     out.reserve(MOST_COMMAND_BYTES)?;
     put_command(out, c)
 }
@@ -46,6 +48,7 @@ pub fn encode_record(r: &Record, out: &mut Vec<u8>) -> Result<(), Memory>
     ensures room { length out.old.items + 1037 ≤ vec_capacity out.old → IsOk result }
     ensures capacity { vec_capacity out.old ≤ vec_capacity out.new }
 {
+    zones_in_are_short(r);
     out.reserve(MOST_RECORD_BYTES)?;
     put_record(out, r)
 }

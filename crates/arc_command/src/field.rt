@@ -1,5 +1,5 @@
 //! Fields: how one is put at the end of the bytes, and how it is read at a place.
-ghost use Rattle.std.specs.Prelude.{◌≡◌, ℕ, ◌<◌, ◌≤◌, ◌^◌, ◌&&◌, ◌∷◌, [], List, length, take, true, false, nat_le, IfOk, IfSome, IfNone, OnOk};
+ghost use Rattle.std.specs.Prelude.{◌≡◌, ℕ, ◌<◌, ◌≤◌, ◌^◌, ◌&&◌, ◌∷◌, [], List, length, take, true, false, nat_le, All, IfOk, IfSome, IfNone, OnOk};
 ghost use Rattle.std.specs.Int.{w16, w32, w64};
 ghost use Rattle.std.specs.List.{AllByRecursion, flat_map};
 ghost use Rattle.std.specs.Str.{IsUtf8, is_utf8};
@@ -17,20 +17,29 @@ pub(crate) trait Field: Drop {
     // The bytes of a value.
     ghost spelling: { Self → List ℕ };
 
-    // What stands at a place.
-    ghost reading: { Reader Self };
+    // What stands at a place, behind these items of the list.
+    ghost reading: { List Self → Reader Self };
+
+    // The limits that the bytes need.
+    ghost IsShort: { Self → Type 0 };
 
     // What is known of every value of the type.
     ghost IsTyped: { Self → Type 0 };
 
     /// Puts the bytes of the value at the end.
     fn put(&self, out: &mut Vec<u8>) -> Result<(), Memory>
+        requires { IsShort self.now }
         ensures adds { Adds out.old out.new (spelling self.now) result }
         ensures typed { OnOk result (IsTyped self.now) };
 
-    /// The value that begins at a place, and the place after it.
-    fn read(alloc: Global, bytes: &[u8], at: usize) -> Result<(Self, usize), CommandEnd>
-        ensures { Gives result (reading bytes.now at) };
+    /// The value that begins at a place, behind the earlier items of its list, and the place after it.
+    fn read(
+        alloc: Global,
+        bytes: &[u8],
+        at: usize,
+        earlier: &[Self],
+    ) -> Result<(Self, usize), CommandEnd>
+        ensures { Gives result (reading earlier.now bytes.now at) };
 }
 
 /// One byte.
@@ -139,12 +148,12 @@ fn read_items<T: Field>(
     start: usize,
     count: u16,
 ) -> Result<(List<T>, usize), CommandEnd>
-    ensures { Gives result (items_at T.reading count bytes.now start) }
+    ensures { Gives result (items_at T.reading [] count bytes.now start) }
 {
     let mut items = Vec::new(alloc);
     let mut at = start;
     for _ in 0..count {
-        let (item, after) = T::read(alloc, bytes, at)?;
+        let (item, after) = T::read(alloc, bytes, at, items.as_slice())?;
         items.push(item)?;
         at = after;
     }
@@ -175,7 +184,8 @@ pub(crate) fn put_text(out: &mut Vec<u8>, text: &Text) -> Result<(), Memory>
 /// Puts a list at the end: its count, and its items.
 #[tactic(auto, unfolding(crate::specs::Spelling::list_bytes))]
 pub(crate) fn put_list<T: Field>(out: &mut Vec<u8>, items: &List<T>) -> Result<(), Memory>
-    requires { length items.now < 2 ^ 16 }
+    requires count { length items.now < 2 ^ 16 }
+    requires short { All T.IsShort items.now }
     ensures adds { Adds out.old out.new (list_bytes T.spelling items.now) result }
     ensures typed { OnOk result (AllByRecursion T.IsTyped items.now) }
 {
@@ -186,6 +196,7 @@ pub(crate) fn put_list<T: Field>(out: &mut Vec<u8>, items: &List<T>) -> Result<(
 
 /// Puts items at the end, one after the other.
 pub(crate) fn put_items<T: Field>(out: &mut Vec<u8>, items: &[T]) -> Result<(), Memory>
+    requires { All T.IsShort items.now }
     ensures adds { Adds out.old out.new (flat_map T.spelling items.now) result }
     ensures typed { OnOk result (AllByRecursion T.IsTyped items.now) }
 {

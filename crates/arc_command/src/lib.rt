@@ -3,8 +3,8 @@
 //! It stands on `arc_data` for commands and entries as plain data, which it names again, and on `arc_bytes` for numbers in
 //! bytes. A node's journal stands on it.
 //!
-//! The law that it keeps: each command and each entry has one spelling. What is spelled is read again, whatever follows
-//! it, and nothing else is read.
+//! The law that it keeps: each command and each entry has one spelling. What is spelled is read again, a command
+//! also where more follows it, and nothing else is read.
 //!
 //! The bytes: a command is the version 1, its identifier (1, 4 and 4 bytes), its time and its token (8 each), the number
 //! of its operation (1) and the operation's fields; an entry is the number of its kind (1) and its parts. Numbers stand
@@ -17,11 +17,16 @@
 mod bytes;
 mod codec;
 mod command_bytes;
+mod control_bytes;
 mod field;
 mod fields;
 mod laws;
 mod op_bytes;
+mod practice_bytes;
 mod record_bytes;
+mod rule_bytes;
+mod shift_bytes;
+mod zones;
 
 pub use arc_data::{
     Answer, Batch, BlockCause, Body, Cause, Command, CommandId, Configured, ControlId, ControlItem,
@@ -36,6 +41,3 @@ pub use laws::{
     commands_have_one_spelling, entries_have_one_spelling, spelled_commands_are_read,
     spelled_entries_are_read,
 };
-
-#[cfg(test)]
-mod byte_tests;

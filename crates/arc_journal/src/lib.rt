@@ -6,7 +6,8 @@
 //! The law that it keeps: at each moment since an append began, a crash leaves a journal with the entries from before, or
 //! with the new one behind them; after its Ok, with the new one alone. Opening a journal finds exactly those entries.
 //!
-//! What the caller owes: an empty disk for a new journal, and no append behind one that met a fault of the disk.
+//! What the caller owes: a node below 5 and 1 to 16,384 slots; an empty disk for a new journal; entries within their
+//! limits, with slots below the greatest length of the list; and no append behind one that met a fault of the disk.
 //!
 //! The bytes: a head of 16 (`ARCJRNL`, the version 1, the node, three bytes 0, and the greatest length of the list in
 //! four bytes), and behind it entries. An entry is a gate byte, the length of its body in four bytes, the body, and the
@@ -25,6 +26,3 @@ mod reading;
 
 pub use end::{AppendEnd, JournalEnd};
 pub use journal::Journal;
-
-#[cfg(test)]
-mod tests;

@@ -140,12 +140,19 @@ fn read_entry(
         Err(BodyEnd::Memory) => return Err(JournalEnd::Memory),
     };
     if !is_below(&entry, max_slots) {
-        return Err(JournalEnd::NotOurs { place });
+        return Err(unread(entry, place));
     }
     if count >= entry_limit(max_slots) {
-        return Err(JournalEnd::NotOurs { place });
+        return Err(unread(entry, place));
     }
     Ok((entry, body.len() + 36))
+}
+
+/// How the reading ends at an entry that the journal of this node can't have.
+fn unread(_entry: Record, place: u64) -> JournalEnd
+    ensures { result ≡ JournalEnd.NotOurs place }
+{
+    JournalEnd::NotOurs { place }
 }
 
 /// Keeps one item more.
