@@ -1,14 +1,18 @@
 -- How many commands there were, and when.
-use Rattle.std.proofs.Common.{◌≡◌, ◌+◌, ◌≤◌, List, [], ◌∷◌, length, fold, max, refl, arith}
+use Rattle.std.proofs.Common.{◌≡◌, ◌+◌, List, [], ◌∷◌, length, fold, max, refl, arith, inl, inr}
+use Rattle.std.proofs.lemmas.Bool.{cases_Bool}
 use Rattle.arc_data.specs.declared.command.Command.{Command}
 use Rattle.arc_plain.specs.State.{Plain, fresh}
-use Rattle.arc_plain.specs.Cluster.{fold_of, next}
-use Rattle.arc_plain.proofs.Steps.{next_cases}
+use Rattle.arc_plain.specs.Cluster.{arrived, fold_of, is_ahead, next}
+use Rattle.arc_plain.proofs.Clocks.{effect_steady}
 
 -- each command counts once
 pub count-next : (plain : Plain) (c : Command) → (next plain c).count ≡ plain.count + 1
 count-next plain c =
-    next_cases (λ p. p.count ≡ plain.count + 1) plain c refl (λ name panel room free. refl) (λ entries. refl)
+    elim (cases_Bool (is_ahead c.token plain.count)) [
+      | inl ahead ↦ rw ahead refl
+      | inr not_ahead ↦ rw not_ahead (effect_steady (arrived plain c) c.op).count
+    ]
 
 -- from any state on
 count-fold : (plain : Plain) (commands : List Command) → (fold next plain commands).count ≡ plain.count + length commands
@@ -22,9 +26,7 @@ places_count commands = omega (arith, count-fold fresh commands)
 -- list time is the later of two times
 pub time_next : (plain : Plain) (c : Command) → (next plain c).time ≡ max plain.time c.at_ms
 time_next plain c =
-    next_cases (λ p. p.time ≡ max plain.time c.at_ms) plain c refl (λ name panel room free. refl) (λ entries. refl)
-
--- a command draws at most one identifier, and gives none back
-pub drawn_next : (plain : Plain) (c : Command) → (plain.controls_drawn ≤ (next plain c).controls_drawn) × ((next plain c).controls_drawn ≤ plain.controls_drawn + 1)
-drawn_next plain c =
-    next_cases (λ p. (plain.controls_drawn ≤ p.controls_drawn) × (p.controls_drawn ≤ plain.controls_drawn + 1)) plain c (omega arith, omega arith) (λ name panel room free. (omega arith, omega arith)) (λ entries. (omega arith, omega arith))
+    elim (cases_Bool (is_ahead c.token plain.count)) [
+      | inl ahead ↦ rw ahead refl
+      | inr not_ahead ↦ rw not_ahead (effect_steady (arrived plain c) c.op).time
+    ]

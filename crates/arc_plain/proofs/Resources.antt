@@ -1,5 +1,5 @@
 -- What holds of the resources after each call.
-use Rattle.std.proofs.Common.{◌≡◌, ℕ, ◌+◌, ◌<◌, ◌≤◌, ◌==◌, Bool, true, false, cond, List, [], ◌∷◌, ◌++◌, length, get_or, map, filter, set, find, position, Some, None, is_some, Ok, Err, All, AllPairs, refl, sym, ap, ◌∙◌, arith, eqb, ltb, not, bytes_eq}
+use Rattle.std.proofs.Common.{◌≡◌, ℕ, ◌+◌, ◌<◌, ◌≤◌, ◌==◌, Bool, true, false, cond, List, [], ◌∷◌, ◌++◌, length, get_or, map, filter, set, position, Some, None, is_some, Ok, Err, refl, ap, ◌∙◌, arith, not, bytes_eq}
 use Rattle.std.proofs.lemmas.Bool.{lt-ltb}
 use Rattle.std.proofs.lemmas.List.{get_or-map, get_or_default, length-map, length-append}
 use Rattle.std.proofs.lemmas.List.Elements.{All-push}

@@ -1,9 +1,9 @@
 -- Setting controls changes nothing of them but whether they are On.
-use Rattle.std.proofs.Common.{◌≡◌, ℕ, ◌+◌, ◌-◌, ◌<◌, ◌≤◌, ◌==◌, Bool, true, false, cond, List, [], ◌∷◌, map, find, length, get_or, drop, Option, Some, None, AllPairs, refl, sym, ap, ◌∙◌, arith}
+use Rattle.std.proofs.Common.{◌≡◌, ℕ, ◌+◌, ◌-◌, ◌<◌, ◌≤◌, ◌==◌, Bool, true, false, cond, List, [], ◌∷◌, find, length, get_or, drop, Option, Some, None, AllPairs, refl, sym, ap, ◌∙◌, arith}
 use Rattle.std.proofs.lemmas.List.{get_or-map, length-map, drop_all, drop_more}
 use Rattle.arc_data.specs.declared.batch.Entry.{Entry}
 use Rattle.arc_data.specs.declared.reply.ControlItem.{ControlItem}
-use Rattle.arc_plain.specs.Controls.{set_by, with_set}
+use Rattle.arc_plain.specs.Panels.{set_by, with_set}
 use Rattle.arc_plain.specs.Laws.{AreAscending, AreDrawn}
 
 -- the same control, On or Off
@@ -46,7 +46,7 @@ ascending_after_sets =
 
 -- and they are those that were drawn
 pub drawn_after_sets : (entries : List Entry) (xs : List ControlItem) (drawn : ℕ) →
-    AreDrawn xs drawn → AreDrawn (with_set entries xs) drawn
+    AreDrawn (λ c. c.control.0) xs drawn → AreDrawn (λ c. c.control.0) (with_set entries xs) drawn
 drawn_after_sets entries xs drawn before = record {
   ascending = ascending_after_sets entries xs before.ascending;
   drawn_before = λ k d within.

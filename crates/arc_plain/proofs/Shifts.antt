@@ -1,6 +1,6 @@
 -- What holds of the customer's shifts after each call.
-use Rattle.std.proofs.Common.{◌≡◌, ◌≢◌, ℕ, ◌+◌, ◌<◌, ◌≤◌, ◌==◌, ◌&&◌, Bool, true, false, cond, List, [], ◌∷◌, ◌++◌, length, get_or, set, map, filter, not, find, position, Option, Some, None, is_some, All, AllPairs, Ok, Err, refl, sym, ap, ◌∙◌, arith, eqb, ltb, leb, zero, suc, inl, inr}
-use Rattle.std.proofs.lemmas.Bool.{cases_Bool, cases_eq, eq-eqb, eqb-true}
+use Rattle.std.proofs.Common.{◌≡◌, ℕ, ◌<◌, ◌≤◌, ◌==◌, ◌&&◌, Bool, true, false, cond, List, [], ◌∷◌, ◌++◌, length, get_or, set, filter, position, Option, Some, None, is_some, All, Ok, Err, refl, sym, ap, ◌∙◌, arith, leb, inl, inr}
+use Rattle.std.proofs.lemmas.Bool.{cases_eq, eq-eqb}
 use Rattle.std.proofs.lemmas.Bool.Decides.{nat_tests}
 use Rattle.std.proofs.lemmas.List.{get_or_default, get_or-set_other, length-set}
 use Rattle.std.proofs.lemmas.List.Quantifiers.{all_pairs_push, position-Some}
@@ -15,7 +15,7 @@ use Rattle.arc_plain.specs.Shifts.{AreAlone, AreApart, AreInOrder, AreKeptShifts
 use Rattle.arc_plain.proofs.Choices.{if_yes}
 use Rattle.arc_plain.proofs.Found.{find_there}
 use Rattle.arc_plain.proofs.Keyed.{changed-set}
-use Rattle.arc_plain.proofs.Kept.{unfound}
+use Rattle.arc_plain.proofs.Unfound.{unfound}
 
 -- ---- a shift that isn't active stays so
 

@@ -5,7 +5,7 @@ use Rattle.arc_data.specs.declared.reply.Named.TheVariants as named
 use Rattle.arc_data.specs.declared.reply.Refusal.{Refusal}
 use Rattle.arc_data.specs.declared.reply.Refusal.TheVariants.{NotFound, Forbidden as IsForbidden}
 use Rattle.arc_data.specs.declared.rule.Forbidden.{Forbidden}
-use Rattle.arc_plain.specs.Controls.{◌>>=◌, refuse_found}
+use Rattle.arc_plain.specs.Rows.{◌>>=◌, refuse_found}
 use Rattle.arc_plain.specs.Panels.{PlainPanels, has_control, on_of, with_states}
 use Rattle.arc_plain.specs.Rules.{PlainRules, has_rule, forbidding, changed_by, with_changes}
 

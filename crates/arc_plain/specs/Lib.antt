@@ -1,7 +1,4 @@
-pub mod State
-pub mod Controls
-pub mod Cluster
-pub mod Laws
+pub mod Rows
 pub mod Panels
 pub mod Rules
 pub mod Batch
@@ -10,3 +7,11 @@ pub mod Shifts
 pub mod Resources
 pub mod Practice
 pub mod Precedence
+pub mod State
+pub mod Controls
+pub mod SafetyRules
+pub mod ZonalShifts
+pub mod PracticeRuns
+pub mod Reads
+pub mod Cluster
+pub mod Laws

@@ -1,5 +1,5 @@
 -- Panels and their controls, and what the operations on them do.
-use Rattle.std.specs.Prelude.{ℕ, ◌+◌, ◌==◌, ◌&&◌, ◌++◌, List, [], ◌∷◌, codes, length, filter, find, Bool, false, not, nat_lt, Option, Some, None, Result, Ok, is_some, unwrap_or}
+use Rattle.std.specs.Prelude.{ℕ, ◌+◌, ◌==◌, ◌&&◌, ◌++◌, List, [], ◌∷◌, codes, length, map, filter, find, Bool, false, not, nat_lt, Option, Some, None, Result, Ok, is_some, unwrap_or}
 use Rattle.std.specs.List.{list_any}
 use Rattle.std.specs.Option.{option_map}
 use Rattle.std.specs.Str.{bytes_eq}
@@ -10,7 +10,7 @@ use Rattle.arc_data.specs.declared.reply.ControlItem.{ControlItem}
 use Rattle.arc_data.specs.declared.reply.Named.TheVariants as named
 use Rattle.arc_data.specs.declared.reply.Refusal.{Refusal}
 use Rattle.arc_data.specs.declared.reply.Refusal.TheVariants.{NotFound, Limit, NameTaken, InUse}
-use Rattle.arc_plain.specs.Controls.{◌>>=◌, require, refuse_found, most_controls, with_set}
+use Rattle.arc_plain.specs.Rows.{◌>>=◌, require, refuse_found}
 
 -- a panel and its name
 pub record PlainPanel : Type 0 where
@@ -37,9 +37,12 @@ fresh_panels = record {
   controls_drawn = 0;
 }
 
--- the most panels that are kept
+-- the most panels, and the most controls, that are kept
 abbrev pub most_panels : ℕ
 most_panels = 16
+
+abbrev pub most_controls : ℕ
+most_controls = 256
 
 -- ---- what is there
 
@@ -142,6 +145,17 @@ list_controls plain None = Ok plain.controls
 list_controls plain (Some panel) = do
   known ← require (has_panel plain panel) (NotFound (named.Panel panel))
   Ok (in_panel plain panel)
+
+-- ---- states
+
+-- the state that a batch gives a control: that of its entry, or the present one
+abbrev pub set_by : Option Entry → ControlItem → ControlItem
+set_by None control = control
+set_by (Some entry) control = record control { on = entry.on }
+
+-- the controls with all entries of a batch set
+abbrev pub with_set : List Entry → List ControlItem → List ControlItem
+with_set entries controls = map (λ c. set_by (find (λ e. e.control.0 == c.control.0) entries) c) controls
 
 -- with all entries set
 abbrev pub with_states : PlainPanels → List Entry → PlainPanels

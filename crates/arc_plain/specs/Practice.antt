@@ -1,5 +1,5 @@
 -- Practice runs: what is kept of them, what became of one, what blocks them, and what the calls on them leave.
-use Rattle.std.specs.Prelude.{◌≡◌, ℕ, ◌+◌, ◌<◌, ◌≤◌, ◌==◌, ◌&&◌, ◌++◌, nat_lt, nat_le, Bool, true, false, not, List, [], ◌∷◌, All, AllPairs, length, map, filter, find, Option, Some, None, is_some, unwrap_or, Result, Ok, Err, if◌then◌else◌}
+use Rattle.std.specs.Prelude.{ℕ, ◌+◌, ◌==◌, ◌&&◌, ◌++◌, nat_lt, nat_le, Bool, true, false, not, List, [], ◌∷◌, length, map, filter, find, Option, Some, None, is_some, unwrap_or, Result, Ok, Err, if◌then◌else◌}
 use Rattle.std.specs.List.{list_any}
 use Rattle.std.specs.Option.{option_map}
 use Rattle.std.specs.Str.{bytes_eq}

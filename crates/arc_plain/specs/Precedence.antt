@@ -1,5 +1,5 @@
 -- Which shift moves a resource's traffic away: the customer's comes first, then autoshift, then a practice run.
-use Rattle.std.specs.Prelude.{ℕ, List, find, Bool, Option, Some, None, if◌then◌else◌}
+use Rattle.std.specs.Prelude.{ℕ, List, find, Option, Some, None, if◌then◌else◌}
 use Rattle.std.specs.List.{list_any}
 use Rattle.std.specs.Option.{option_map}
 use Rattle.std.specs.Str.{bytes_eq}

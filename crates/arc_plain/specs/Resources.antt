@@ -8,7 +8,7 @@ use Rattle.arc_data.specs.declared.resource.ResourceItem.{ResourceItem}
 use Rattle.arc_data.specs.declared.reply.Named.TheVariants as named
 use Rattle.arc_data.specs.declared.reply.Refusal.{Refusal}
 use Rattle.arc_data.specs.declared.reply.Refusal.TheVariants.{NotFound, Limit, NameTaken, Started}
-use Rattle.arc_plain.specs.Controls.{◌>>=◌, require, refuse_found}
+use Rattle.arc_plain.specs.Rows.{◌>>=◌, require, refuse_found}
 
 -- the resources in order of registration, how many identifiers were drawn, and the zones in autoshift in order of start
 pub record PlainResources : Type 0 where

@@ -20,7 +20,7 @@ use Rattle.arc_data.specs.declared.rule.RuleItem.{RuleItem}
 use Rattle.arc_data.specs.declared.rule.RuleKind.{RuleKind}
 use Rattle.arc_data.specs.declared.rule.RuleKind.TheVariants.{And, Or, AtLeast}
 use Rattle.arc_data.specs.declared.rule.RuleSpec.{RuleSpec}
-use Rattle.arc_plain.specs.Controls.{◌>>=◌, require, refuse_found}
+use Rattle.arc_plain.specs.Rows.{◌>>=◌, require, refuse_found}
 
 -- a rule, what it is made of, and how many changes had been accepted when it was made
 pub record PlainRule : Type 0 where

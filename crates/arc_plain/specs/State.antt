@@ -1,37 +1,55 @@
 -- What a plain cluster holds.
-use Rattle.std.specs.Prelude.{ℕ, ◌==◌, Bool, false, List, [], find, Option, is_some}
-use Rattle.arc_ids.specs.declared.named_id.PanelId.{PanelId}
-use Rattle.arc_ids.specs.declared.named_id.ControlId.{ControlId}
-use Rattle.arc_ids.specs.declared.named_id.RuleId.{RuleId}
-use Rattle.arc_data.specs.declared.reply.ControlItem.{ControlItem}
+use Rattle.std.specs.Prelude.{ℕ, ◌+◌, List, [], Result}
+use Rattle.arc_ids.specs.declared.named_id.ShiftId.{ShiftId}
+use Rattle.arc_data.specs.declared.reply.Body.{Body}
+use Rattle.arc_data.specs.declared.reply.Refusal.{Refusal}
+use Rattle.arc_data.specs.declared.shift.Shift.{Shift}
+use Rattle.arc_plain.specs.Panels.{PlainPanels, fresh_panels}
+use Rattle.arc_plain.specs.Rules.{PlainRules, fresh_rules}
+use Rattle.arc_plain.specs.Batch.{PlainControls}
+use Rattle.arc_plain.specs.Resources.{PlainResources, no_resources}
+use Rattle.arc_plain.specs.Practice.{PlainPractices, no_practices}
 
 -- The whole state, as plain lists:
--- time, the greatest time of the commands so far, in milliseconds, refused ones and reads included;
+-- time, list time: the greatest time of the commands so far, in milliseconds, refused ones and reads included;
 -- count, how many commands there were, again all of them;
--- controls, in order of creation, each with its panel, its name and whether it is On;
--- controls_drawn, how many identifiers of controls were drawn.
+-- controls, panels with their controls, and the safety rules with all accepted changes;
+-- resources, with the zones in autoshift;
+-- shifts, those that the customer started and that are kept;
+-- practices, the configurations of practice runs, the runs that are kept, and the red alarms;
+-- shifts_drawn, how many identifiers of shifts and practice runs were drawn: both have them from one counter.
 pub record Plain : Type 0 where
   pub time : ℕ
   pub count : ℕ
-  pub controls : List ControlItem
-  pub controls_drawn : ℕ
+  pub controls : PlainControls
+  pub resources : PlainResources
+  pub shifts : List Shift
+  pub practices : PlainPractices
+  pub shifts_drawn : ℕ
 
--- how a cluster starts
+-- how a cluster starts: with the first panel, at list time 0
 abbrev pub fresh : Plain
-fresh = record { time = 0; count = 0; controls = []; controls_drawn = 0 }
+fresh = record {
+  time = 0;
+  count = 0;
+  controls = record { panels = fresh_panels; rules = fresh_rules };
+  resources = no_resources;
+  shifts = [];
+  practices = no_practices;
+  shifts_drawn = 0;
+}
 
--- panel 1, with which a cluster starts, is the only panel
-abbrev pub has_panel : Plain → PanelId → Bool
-has_panel plain panel = panel.0 == 1
+-- what an operation gives: its answer and the next state, or why it is refused
+abbrev pub Effect : Type 0
+Effect = Result (Body × Plain) Refusal
 
--- there is no safety rule
-abbrev pub has_rule : Plain → RuleId → Bool
-has_rule plain rule = false
+-- with other panels and controls, with other safety rules
+abbrev pub with_panels : Plain → PlainPanels → Plain
+with_panels plain panels = record plain { controls = record { panels = panels; rules = plain.controls.rules } }
 
--- the control with this identifier
-abbrev pub control_of : Plain → ControlId → Option ControlItem
-control_of plain control = find (λ c. c.control.0 == control.0) plain.controls
+abbrev pub with_rules : Plain → PlainRules → Plain
+with_rules plain rules = record plain { controls = record { panels = plain.controls.panels; rules = rules } }
 
--- whether there is one
-abbrev pub has_control : Plain → ControlId → Bool
-has_control plain control = is_some (control_of plain control)
+-- the identifier of the next shift or practice run: they are drawn from 1 on
+abbrev pub next_shift : Plain → ShiftId
+next_shift plain = record { 0 = plain.shifts_drawn + 1 }
