@@ -12,10 +12,10 @@ use Rattle.arc_data.specs.declared.reply.Refusal.TheVariants.{NotFound, Forbidde
 use Rattle.arc_data.specs.declared.reply.Reply.TheVariants.{Done, Refused}
 use Rattle.arc_data.specs.declared.rule.Forbidden.{Forbidden}
 use Rattle.arc_plain.specs.Batch.{commit_batch}
-use Rattle.arc_plain.specs.Controls.{set_by, with_set}
+use Rattle.arc_plain.specs.Panels.{set_by, with_set}
 use Rattle.arc_plain.specs.Panels.{PlainPanels, has_control, on_of, with_states}
 use Rattle.arc_plain.specs.Rules.{PlainRules, changed_by, forbidding, has_rule, with_changes}
-use Rattle.arc_plain.proofs.Kept.{unfound}
+use Rattle.arc_plain.proofs.Unfound.{unfound}
 use Rattle.arc_plain.proofs.Sets.{sets_more, sets_none}
 use Rattle.arc_batch.specs.declared.batch.Controls.{Controls}
 use Rattle.arc_batch.specs.Commit.{Commits}

@@ -12,6 +12,3 @@
 mod batch;
 
 pub use batch::{Controls, commit};
-
-#[cfg(test)]
-mod tests;

@@ -18,7 +18,7 @@ use Rattle.arc_data.specs.declared.reply.ControlItem.{ControlItem}
 use Rattle.arc_data.specs.declared.reply.Named.TheVariants as named
 use Rattle.arc_data.specs.declared.reply.Refusal.TheVariants.{NotFound, Limit, NameTaken, InUse}
 use Rattle.arc_data.specs.States.{has_state, is_on}
-use Rattle.arc_plain.specs.Controls.{most_controls}
+use Rattle.arc_plain.specs.Panels.{most_controls}
 use Rattle.arc_plain.specs.Panels.{PlainPanels, add_control, add_panel, has_control, has_panel, list_controls, most_panels, name_of, on_of, panel_of, remove_control, remove_panel, with_states}
 use Rattle.arc_plain.proofs.Lists.{filter-map, found-map, found_through, list_any-map, nothing_through}
 use Rattle.arc_panel.specs.declared.tables.Control.{Control}

@@ -10,7 +10,7 @@ use Rattle.std.proofs.lemmas.Bool.Decides.{nat_tests}
 use Rattle.arc_ids.specs.declared.named_id.ControlId.{ControlId}
 use Rattle.arc_data.specs.declared.batch.Entry.{Entry}
 use Rattle.arc_data.specs.States.{has_state, is_on}
-use Rattle.arc_plain.specs.Controls.{set_by, with_set}
+use Rattle.arc_plain.specs.Panels.{set_by, with_set}
 use Rattle.arc_panel.specs.declared.tables.Control.{Control}
 use Rattle.arc_panel.specs.Kept.{item_with}
 

@@ -7,7 +7,7 @@ use Rattle.arc_ids.specs.declared.named_id.PanelId.{PanelId}
 use Rattle.arc_ids.specs.declared.named_id.ControlId.{ControlId}
 use Rattle.arc_data.specs.declared.reply.ControlItem.{ControlItem}
 use Rattle.arc_data.specs.States.{has_state, is_on}
-use Rattle.arc_plain.specs.Controls.{most_controls}
+use Rattle.arc_plain.specs.Panels.{most_controls}
 use Rattle.arc_plain.specs.Panels.{PlainPanel, PlainPanels, most_panels}
 use Rattle.arc_panel.specs.declared.tables.Panel.{Panel}
 use Rattle.arc_panel.specs.declared.tables.Control.{Control}

@@ -6,8 +6,8 @@
 //! The law that it keeps: it is seen as the panels and controls of a plain state, and every call does what that state's
 //! row says. After a refusal or want of memory nothing has changed.
 //!
-//! What the caller owes: fewer than 2^64 - 1 identifiers drawn of each kind, and for a control that is removed, that no
-//! safety rule names it.
+//! What the caller owes: fewer than 2^64 - 1 identifiers drawn of each kind, and for a control that is set, that it is
+//! kept. Whether a safety rule names a control that is removed is for the caller to ask.
 #![tactic(auto)]
 
 mod panels;

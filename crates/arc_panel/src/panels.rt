@@ -2,7 +2,7 @@
 ghost use Rattle.std.specs.Prelude.{◌≡◌, ◌-◌, ◌<◌, ◌^◌, ◌∷◌, [], IfOk, IsTrue, OnErr, option_copied};
 ghost use Rattle.arc_ids.specs.declared.named_id.ControlId.{ControlId as Id};
 ghost use Rattle.arc_data.specs.States.{has_state, is_on};
-ghost use Rattle.arc_plain.specs.Panels.{add_control, add_panel, fresh_panels, has_control, list_controls, name_of, on_of, panel_of, remove_control, remove_panel, with_states};
+ghost use Rattle.arc_plain.specs.Panels.{add_control, add_panel, fresh_panels, has_control, has_panel, list_controls, name_of, on_of, panel_of, remove_control, remove_panel, with_states};
 ghost use Rattle.arc_panel.specs.Rows.{Lists, Tells};
 
 use crate::tables::{self, Control, Panel};
@@ -147,6 +147,13 @@ impl Panels {
         tables::drop_control(&mut self.controls, control);
         self.states.remove(control);
         Ok(())
+    }
+
+    /// Whether there is a panel.
+    pub fn has(&self, panel: PanelId) -> bool
+        ensures { result ≡ has_panel self.now panel }
+    {
+        tables::has_panel(self.panels.as_slice(), panel)
     }
 
     /// The panel of a control.

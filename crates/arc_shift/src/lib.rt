@@ -6,8 +6,9 @@
 //! The law that it keeps: at most one shift of a resource is active at a moment that isn't before the start of any kept
 //! one. A shift that is over stays as it ended, until it is forgotten.
 //!
-//! What the caller owes: a moment that isn't before the start of any kept shift, an identifier above every kept one for a
-//! new shift, and that a shift that is forgotten is kept. After a refusal and after want of memory nothing has changed.
+//! What the caller owes: a moment of at most `MAX_MS` that isn't before the start of any kept shift; for a new shift an
+//! identifier above every kept one; that a shift that is forgotten is kept; and fewer than 2^64 - 1 resources drawn. After
+//! a refusal and after want of memory nothing has changed.
 #![tactic(auto)]
 
 mod progress;
@@ -18,6 +19,3 @@ pub use arc_data::{Shift, Status};
 pub use progress::status;
 pub use resources::Resources;
 pub use shifts::Shifts;
-
-#[cfg(test)]
-mod tests;
