@@ -1,0 +1,3 @@
+pub mod Canceled
+pub mod Changed
+pub mod Kept

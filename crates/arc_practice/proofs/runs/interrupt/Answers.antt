@@ -1,0 +1,13 @@
+use Rattle.std.proofs.Common.{◌<◌, ◌==◌, length, arith}
+use Rattle.std.proofs.lemmas.List.Edits.{map_over_more}
+use Rattle.arc_data.specs.declared.practice.Ending.TheVariants.{Interrupt}
+use Rattle.arc_plain.specs.Practice.{ended_where}
+use Rattle.arc_practice.proofs.runs.interrupt.Goals as goal
+
+pub loop-run-preserved : goal.loop-run-preserved
+loop-run-preserved c =
+    let xs = c.deref_mut-run-items.result.now in
+    let within : c.loop-run.run-index < length xs = omega arith in
+    rw (c.end.ensures, ← c.run-item.is)
+    (map_over_more (ended_where (λ r. r.resource.0 == c.args.resource.0) Interrupt c.args.now) xs c.loop-run.run-items c.loop-run.run-index c.run-item.result
+    within c.loop-run.invariant c.run-item.is)

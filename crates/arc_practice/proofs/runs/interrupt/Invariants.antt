@@ -1,0 +1,9 @@
+use Rattle.std.proofs.Common.{◌≡◌, ◌==◌, ◌++◌, map, take, drop}
+use Rattle.arc_data.specs.declared.practice.Ending.TheVariants.{Interrupt}
+use Rattle.arc_plain.specs.Practice.{ended_where}
+use Rattle.arc_practice.proofs.runs.interrupt.Given as goal
+
+-- the event has met the runs so far
+abbrev pub invariant-loop-run : goal.invariant-loop-run
+invariant-loop-run l =
+    l.run-items ≡ map (ended_where (λ r. r.resource.0 == l.resource.0) Interrupt l.now) (take l.run-index l.initial.run-items) ++ drop l.run-index l.initial.run-items
