@@ -1,2 +1,12 @@
-pub mod Sets
-pub mod Searched
+pub mod Ended
+pub mod Outside
+pub mod Renewed
+pub mod Rooms
+pub mod Stands
+pub mod Keeping
+pub mod Recounts
+pub mod Started
+pub mod Yielding
+pub mod Beside
+pub mod FreeRuns
+pub mod Interrupted
