@@ -1,1 +1,4 @@
 pub mod Floats
+pub mod Apart
+pub mod Texts
+pub mod Told

@@ -1,10 +1,16 @@
 //! What was done, as JSON.
 ghost use Rattle.std.specs.Prelude.{◌≡◌, IfOk};
 ghost use Rattle.serde_json.specs.View.{view};
-ghost use Rattle.arc_json.specs.Reply.{switch_text, body_value};
+ghost use Rattle.arc_json.specs.Done.{body_value};
 
+use crate::resource_body::{
+    autoshift_json, detail_json, resource_json, resources_json, shift_json, shifts_json,
+};
+use crate::routing_body::{
+    control_json, control_state_json, controls_json, panel_json, rule_json, rules_json,
+};
 use arc_bytes::Memory;
-use arc_data::{Body, ControlId, PanelId, Text};
+use arc_data::Body;
 use serde_json::{Value, json};
 use std::alloc::Global;
 
@@ -14,14 +20,37 @@ pub fn body_json(alloc: Global, body: &Body) -> Result<Value, Memory>
 {
     match body {
         Body::Empty => empty_json(alloc),
+        Body::Panel { panel, name } => panel_json(alloc, *panel, name),
         Body::Control {
             panel,
             name,
             control,
         } => control_json(alloc, *panel, name, *control),
+        Body::Controls { items } => controls_json(alloc, items.as_slice()),
         Body::ControlState { control, name, on } => {
             control_state_json(alloc, *control, name, *on)
         }
+        Body::Rule { rule } => rule_json(alloc, *rule),
+        Body::Rules { items } => rules_json(alloc, items.as_slice()),
+        Body::Resource { resource } => resource_json(alloc, *resource),
+        Body::ResourceDetail {
+            applied,
+            zones,
+            name,
+            resource,
+            autoshift,
+        } => detail_json(
+            alloc,
+            *applied,
+            zones.as_slice(),
+            name,
+            *resource,
+            *autoshift,
+        ),
+        Body::Resources { items } => resources_json(alloc, items.as_slice()),
+        Body::Shift { item } => shift_json(alloc, item),
+        Body::Shifts { items } => shifts_json(alloc, items.as_slice()),
+        Body::Autoshift { resource, enabled } => autoshift_json(alloc, *resource, *enabled),
     }
 }
 
@@ -29,45 +58,4 @@ fn empty_json(alloc: Global) -> Result<Value, Memory>
     ensures { IfOk result (λ v. view v ≡ body_value Body.Empty) }
 {
     Ok(json!(in alloc; {})?)
-}
-
-fn control_json(
-    alloc: Global,
-    panel: PanelId,
-    name: &Text,
-    control: ControlId,
-) -> Result<Value, Memory>
-    ensures { IfOk result (λ v. view v ≡ body_value (Body.Control panel name.now control)) }
-{
-    let panel = panel.text(alloc)?;
-    let control = control.text(alloc)?;
-    Ok(json!(in alloc; {
-        "RoutingControl": {
-            "ControlPanelArn": panel,
-            "Name": name.as_str(),
-            "RoutingControlArn": control
-        }
-    })?)
-}
-
-fn control_state_json(
-    alloc: Global,
-    control: ControlId,
-    name: &Text,
-    on: bool,
-) -> Result<Value, Memory>
-    ensures { IfOk result (λ v. view v ≡ body_value (Body.ControlState control name.now on)) }
-{
-    let control = control.text(alloc)?;
-    Ok(json!(in alloc; {
-        "RoutingControlArn": control,
-        "RoutingControlName": name.as_str(),
-        "RoutingControlState": switch_word(on)
-    })?)
-}
-
-fn switch_word(on: bool) -> &'static str
-    ensures { result.now ≡ switch_text on }
-{
-    if on { "On" } else { "Off" }
 }

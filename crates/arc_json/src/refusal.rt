@@ -1,10 +1,12 @@
 //! Why a command was refused, as JSON.
 ghost use Rattle.std.specs.Prelude.{◌≡◌, IfOk, map, string_bytes};
 ghost use Rattle.serde_json.specs.View.{view};
-ghost use Rattle.arc_json.specs.Reply.{about, block_word, forbidden_value, kind_word, named_text, refusal_status, refusal_value, shift_word};
+ghost use Rattle.arc_json.specs.Refusal.{about, forbidden_value, refusal_status, refusal_value};
+ghost use Rattle.arc_json.specs.Words.{named_text};
 
+use crate::words::{word_of_block, word_of_kind, word_of_status};
 use arc_bytes::Memory;
-use arc_data::{BlockCause, Cause, Forbidden, Kind, Named, Refusal, Status};
+use arc_data::{BlockCause, Cause, Forbidden, Kind, Named, Refusal, Status, ZoneName};
 use serde_json::{Value, json};
 use std::alloc::{AllocError, Global};
 
@@ -22,6 +24,7 @@ pub fn http_status(refusal: &Refusal) -> u16
         Refusal::TokenAhead { .. } => 409,
         Refusal::NotFound { .. } | Refusal::NotConfigured { .. } => 404,
         Refusal::Limit { .. } => 402,
+        Refusal::WrongZone { .. } => 400,
         _ => 409,
     }
 }
@@ -43,6 +46,9 @@ pub fn refusal_json(alloc: Global, refusal: &Refusal) -> Result<Value, Memory>
         Refusal::Configured { resource } => {
             about_json(alloc, "Configured", resource.text(alloc)?, CONFLICT)
         }
+        Refusal::Enabled { resource } => {
+            about_json(alloc, "Enabled", resource.text(alloc)?, CONFLICT)
+        }
         Refusal::Started { zone } => {
             about_json(
                 alloc,
@@ -53,6 +59,7 @@ pub fn refusal_json(alloc: Global, refusal: &Refusal) -> Result<Value, Memory>
         }
         Refusal::NotActive { status } => not_active_json(alloc, *status),
         Refusal::Busy { by } => busy_json(alloc, *by),
+        Refusal::WrongZone { zone } => wrong_zone_json(alloc, *zone),
         Refusal::Blocked { cause } => blocked_json(alloc, *cause),
     }
 }
@@ -114,6 +121,16 @@ fn busy_json(alloc: Global, by: Kind) -> Result<Value, Memory>
     })?)
 }
 
+fn wrong_zone_json(alloc: Global, zone: ZoneName) -> Result<Value, Memory>
+    ensures { IfOk result (λ v. view v ≡ refusal_value (Refusal.WrongZone zone)) }
+{
+    Ok(json!(in alloc; {
+        "AwayFrom": zone.as_str(),
+        "Reason": "WrongZone",
+        "__type": "ValidationException"
+    })?)
+}
+
 fn blocked_json(alloc: Global, cause: BlockCause) -> Result<Value, Memory>
     ensures { IfOk result (λ v. view v ≡ refusal_value (Refusal.Blocked cause)) }
 {
@@ -162,37 +179,6 @@ fn rule_json(alloc: Global, forbidden: Forbidden) -> Result<Value, Memory>
             "SafetyRuleArn": rule,
             "Until": until
         })?),
-    }
-}
-
-fn word_of_status(status: Status) -> &'static str
-    ensures { result.now ≡ shift_word status }
-{
-    match status {
-        Status::Active => "ACTIVE",
-        Status::Expired => "EXPIRED",
-        Status::Canceled => "CANCELED",
-    }
-}
-
-fn word_of_kind(kind: Kind) -> &'static str
-    ensures { result.now ≡ kind_word kind }
-{
-    match kind {
-        Kind::Customer => "CUSTOMER",
-        Kind::Autoshift => "AUTOSHIFT",
-        Kind::PracticeRun => "PRACTICE_RUN",
-    }
-}
-
-fn word_of_block(cause: BlockCause) -> &'static str
-    ensures { result.now ≡ block_word cause }
-{
-    match cause {
-        BlockCause::BlockedDate => "BlockedDate",
-        BlockCause::BlockedWindow => "BlockedWindow",
-        BlockCause::BlockingAlarm => "BlockingAlarm",
-        BlockCause::OutcomeAlarm => "OutcomeAlarm",
     }
 }
 

@@ -1,6 +1,6 @@
 use Rattle.std.proofs.Common.{◌≡◌, map, take}
 use Rattle.serde_json.specs.View.{view}
-use Rattle.arc_json.specs.Reply.{forbidden_value}
+use Rattle.arc_json.specs.Refusal.{forbidden_value}
 use Rattle.arc_json.proofs.refusal.rules_json.Given as goal
 
 -- the values so far are those of the first rules

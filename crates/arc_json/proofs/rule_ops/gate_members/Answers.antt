@@ -1,0 +1,15 @@
+use Rattle.std.proofs.Common.{refl}
+use Rattle.std.proofs.lemmas.Result.{err_from_is_err_and}
+use Rattle.arc_members.proofs.Steps.{stops}
+use Rattle.arc_json.specs.Rules.{gate_members}
+use Rattle.arc_json.proofs.rule_ops.gate_members.Goals as goal
+
+pub returns-in_err-wait_ms-clause-gives : goal.returns-in_err-wait_ms-clause-gives
+unfolding gate_members
+returns-in_err-wait_ms-clause-gives c =
+    let p = err_from_is_err_and c.from_residual-in_err-wait_ms.result c.from_residual-in_err-wait_ms.ensures.1 in
+    rw (c.in_ok-name.ensures.gives, c.in_ok-panel.ensures.gives, c.in_ok-controls.ensures.gives, c.in_ok-targets.ensures.gives, c.in_ok-config.ensures.gives, p.1, p.2) (stops c.in_err-wait_ms.field-0.0 _ _ c.in_err-wait_ms.ensures.gives)
+
+pub returns-clause-gives : goal.returns-clause-gives
+unfolding gate_members
+returns-clause-gives c = rw (c.in_ok-name.ensures.gives, c.in_ok-panel.ensures.gives, c.in_ok-controls.ensures.gives, c.in_ok-targets.ensures.gives, c.in_ok-config.ensures.gives, c.in_ok-wait_ms.ensures.gives) refl
