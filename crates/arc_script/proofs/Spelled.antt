@@ -1,20 +1,23 @@
 -- The lines of steps are read as these steps.
-use Rattle.std.proofs.Common.{◌≡◌, ℕ, ◌<◌, ◌≤◌, ◌^◌, ◌-◌, ◌==◌, Bool, true, false, List, [], ◌∷◌, length, Ok, refl, ap, ◌∙◌, arith}
+use Rattle.std.proofs.Common.{◌≡◌, ℕ, ◌<◌, ◌≤◌, ◌^◌, ◌-◌, ◌==◌, Bool, true, false, List, [], ◌∷◌, ◌++◌, ◌+◌, length, length-append, Ok, refl, ap, ◌∙◌, arith}
 use Rattle.std.specs.Prelude.{codes}
 use Rattle.std.specs.Char.{is_ascii_digit}
 use Rattle.std.specs.Fmt.{decimal}
-use Rattle.std.specs.List.{list_any, slice_split, All, AllByRecursion}
-use Rattle.std.specs.Str.{IsUtf8, is_utf8, all_ascii_digits}
+use Rattle.std.specs.List.{list_any, slice_split, position_or_len, All, AllByRecursion}
+use Rattle.std.specs.Str.{IsUtf8, is_utf8, all_ascii_digits, bytes_eq}
 use Rattle.std.proofs.lemmas.Bool.{and_parts, or_parts, or_from, ne_eqb, le-leb}
 use Rattle.std.proofs.lemmas.Fmt.{decimal_nonempty, digits_decimal, IsAscii-decimal}
+use Rattle.std.proofs.Math.Seq.{take-length, take-append_seam, get_or-append_seam}
+use Rattle.std.proofs.lemmas.List.{get_or_append_left}
+use Rattle.std.proofs.lemmas.List.Sums.{position_or_len_is}
 use Rattle.std.proofs.lemmas.List.Elements.{All-from_recursion}
 use Rattle.std.proofs.lemmas.List.Splits.{slice_split_at, slice_split_none}
 use Rattle.std.proofs.lemmas.Str.{IsUtf8-append, IsUtf8-from_ascii, is_utf8-from_IsUtf8}
 use Rattle.arc_data.specs.declared.command.TheConstants.{MAX_MS}
 use Rattle.arc_script.specs.declared.step.Step.TheVariants.{Call}
-use Rattle.arc_script.specs.Grammar.{head_of, is_empty, new_line, get_line, set_line, new_control, get_control, set_control, step_of_words, step_of}
+use Rattle.arc_script.specs.Grammar.{before_space, head_of, is_empty, new_line, get_line, set_line, new_control, get_control, set_control, step_of_words, step_of}
 use Rattle.arc_script.specs.Spelling.{IsWord, line, state_word}
-use Rattle.arc_script.specs.Words.{number_up_to, endpoint_of, name_of, state_of}
+use Rattle.arc_script.specs.Words.{number_up_to, node_of, name_of, state_of}
 use Rattle.arc_script.proofs.Numbers.{numerals, decimal_is_number}
 
 -- ---- words and lines
@@ -45,12 +48,26 @@ line_utf8 word (second ∷ words) are =
     IsUtf8-append word (32 ∷ line (second ∷ words)) are.0.utf8
     (IsUtf8-append (32 ∷ []) (line (second ∷ words)) (32 ∷ [], (refl, refl)) (line_utf8 second words are.1))
 
+-- its first word stands before the first space
+first_word : (word : List ℕ) (words : List (List ℕ)) → AllByRecursion IsWord (word ∷ words) → before_space (line (word ∷ words)) ≡ word
+first_word word [] are =
+    let at : position_or_len is_space word ≡ length word =
+    position_or_len_is is_space word (length word) 0 (omega arith) (λ k below. no_space_all word are.0 k 0 below) (λ past. absurd (omega arith)) in
+    rw at (take-length word)
+first_word word (second ∷ words) are =
+    let sum : length (word ++ 32 ∷ line (second ∷ words)) ≡ length word + length (32 ∷ line (second ∷ words)) = length-append word (32 ∷ line (second ∷ words)) in
+    let at : position_or_len is_space (word ++ 32 ∷ line (second ∷ words)) ≡ length word =
+    position_or_len_is is_space (word ++ 32 ∷ line (second ∷ words)) (length word) 0 (omega arith)
+    (λ k below. rw (get_or_append_left word (32 ∷ line (second ∷ words)) 0 k below) (no_space_all word are.0 k 0 below))
+    (λ within. rw (get_or-append_seam word 32 (line (second ∷ words)) 0) refl) in
+    rw at (take-append_seam word (32 ∷ line (second ∷ words)))
+
 -- so it is read as those words are
-line_is_words : (word : List ℕ) (words : List (List ℕ)) → AllByRecursion IsWord (word ∷ words) → step_of (line (word ∷ words)) ≡ step_of_words (word ∷ words)
+line_is_words : (word : List ℕ) (words : List (List ℕ)) → AllByRecursion IsWord (word ∷ words) → bytes_eq word (codes "call") ≡ false → step_of (line (word ∷ words)) ≡ step_of_words (word ∷ words)
 unfolding step_of
-line_is_words word words are =
+line_is_words word words are other =
     let utf8 : is_utf8 (line (word ∷ words)) ≡ true = is_utf8-from_IsUtf8 _ (line_utf8 word words are) in
-    rw (utf8, line_splits word words are) refl
+    rw (utf8, first_word word words are, other, line_splits word words are) refl
 
 none_empty : (words : List (List ℕ)) → AllByRecursion IsWord words → list_any is_empty words ≡ false
 none_empty [] are = refl
@@ -99,7 +116,7 @@ unfolding number_up_to
 number_read most n within small = rw (decimal_is_number n (omega arith), le-leb n most within) refl
 
 head_read : (at_ms token : ℕ) → at_ms ≤ MAX_MS → token < 2 ^ 64 → head_of (codes "0") (decimal at_ms) (decimal token) ≡ Ok (record { node = 0; at_ms = at_ms; token = token })
-unfolding head_of endpoint_of number_up_to
+unfolding head_of node_of number_up_to
 head_read at_ms token within small =
     rw (decimal_is_number at_ms (omega arith), le-leb at_ms MAX_MS within, decimal_is_number token small, le-leb token (2 ^ 64 - 1) (omega arith)) refl
 
@@ -117,7 +134,7 @@ new_is_read at_ms token name within small word short =
     let fields : List (List ℕ) = codes "0" ∷ decimal at_ms ∷ decimal token ∷ name ∷ [] in
     let are : AllByRecursion IsWord fields = (zero_word, (decimal_word at_ms (omega arith), (decimal_word token small, (word, tt)))) in
     let some : 0 < length name = word.some in
-    line_is_words (codes "new") fields (new_word, are)
+    line_is_words (codes "new") fields (new_word, are) refl
     ∙ rw (none_empty fields are, head_read at_ms token within small, le-leb 1 (length name) (omega arith), le-leb (length name) 64 short) refl
 
 pub get_is_read : (at_ms token control : ℕ) → at_ms ≤ MAX_MS → token < 2 ^ 64 → control < 2 ^ 64
@@ -126,7 +143,7 @@ unfolding step_of_words get_line
 get_is_read at_ms token control within small low =
     let fields : List (List ℕ) = codes "0" ∷ decimal at_ms ∷ decimal token ∷ decimal control ∷ [] in
     let are : AllByRecursion IsWord fields = (zero_word, (decimal_word at_ms (omega arith), (decimal_word token small, (decimal_word control low, tt)))) in
-    line_is_words (codes "get") fields (get_word, are)
+    line_is_words (codes "get") fields (get_word, are) refl
     ∙ rw (none_empty fields are, head_read at_ms token within small, number_read (2 ^ 64 - 1) control (omega arith) (omega arith)) refl
 
 pub set_is_read : (at_ms token control : ℕ) (on : Bool) → at_ms ≤ MAX_MS → token < 2 ^ 64 → control < 2 ^ 64
@@ -135,5 +152,5 @@ unfolding step_of_words set_line
 set_is_read at_ms token control on within small low =
     let fields : List (List ℕ) = codes "0" ∷ decimal at_ms ∷ decimal token ∷ decimal control ∷ state_word on ∷ [] in
     let are : AllByRecursion IsWord fields = (zero_word, (decimal_word at_ms (omega arith), (decimal_word token small, (decimal_word control low, (state_is_word on, tt))))) in
-    line_is_words (codes "set") fields (set_word, are)
+    line_is_words (codes "set") fields (set_word, are) refl
     ∙ rw (none_empty fields are, head_read at_ms token within small, number_read (2 ^ 64 - 1) control (omega arith) (omega arith), state_read on) refl

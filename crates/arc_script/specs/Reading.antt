@@ -1,5 +1,5 @@
 -- How the readers inside answer what the grammar says.
-use Rattle.std.specs.Prelude.{◌≡◌, List, ◌++◌, Result, Ok, Err, ⊤}
+use Rattle.std.specs.Prelude.{◌≡◌, Bool, true, false, List, [], ◌∷◌, ◌++◌, Result, Ok, Err, ⊤}
 use Rattle.arc_script.specs.declared.end.LineEnd.{LineEnd}
 use Rattle.arc_script.specs.declared.end.LineEnd.TheVariants as end
 use Rattle.arc_script.specs.declared.step.ScriptCode.{ScriptCode}
@@ -19,10 +19,15 @@ Reads (Ok x) read = read ≡ Ok x
 Reads (Err (end.Bad code)) read = read ≡ Err code
 Reads (Err end.Memory) read = ⊤
 
--- the steps so far before those that are read behind them
-abbrev pub behind : List Step → Result (List Step) BadLine → Result (List Step) BadLine
-behind front (Ok steps) = Ok (front ++ steps)
+-- what was read so far, before what is read behind it
+abbrev pub behind : {X E : Type 0} → List X → Result (List X) E → Result (List X) E
+behind front (Ok xs) = Ok (front ++ xs)
 behind front (Err bad) = Err bad
+
+-- whether steps came before
+abbrev pub begun : List Step → Bool
+begun [] = false
+begun (step ∷ steps) = true
 
 -- why reading ended is what the grammar says, want of memory apart
 abbrev pub Fails : ScriptEnd → Result (List Step) BadLine → Type 0

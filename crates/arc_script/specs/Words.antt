@@ -5,6 +5,7 @@ use Rattle.std.specs.Str.{all_ascii_digits, bytes_eq}
 use Rattle.std.specs.Str.Parse.{digits_value}
 use Rattle.arc_script.specs.declared.step.ScriptCode.{ScriptCode}
 use Rattle.arc_script.specs.declared.step.ScriptCode.TheVariants.{Word, Number, Name, State}
+use Rattle.arc_script.specs.Chain.{◌>>=◌}
 
 -- a number: `0`, or decimal digits that don't begin with 0
 abbrev pub is_number : List ℕ → Bool
@@ -28,13 +29,20 @@ number_up_to most word = at_most most (number_of word)
 abbrev pub long_number : List ℕ → Result ℕ ScriptCode
 long_number word = number_up_to (2 ^ 64 - 1) word
 
--- of the five endpoints 0 to 4 the first is built
-abbrev pub built_endpoint : Result ℕ ScriptCode → Result ℕ ScriptCode
-built_endpoint (Ok node) = if node == 0 then Ok node else Err Word
-built_endpoint (Err code) = Err code
+-- a count: a number from 1 to so much
+abbrev pub not_zero : ℕ → Result ℕ ScriptCode
+not_zero n = if n == 0 then Err Number else Ok n
 
-unfoldable pub endpoint_of : List ℕ → Result ℕ ScriptCode
-endpoint_of word = built_endpoint (number_up_to 4 word)
+unfoldable pub count_up_to : ℕ → List ℕ → Result ℕ ScriptCode
+count_up_to most word = number_up_to most word >>= not_zero
+
+-- of the five nodes 0 to 4 the first is built
+abbrev pub built_node : Result ℕ ScriptCode → Result ℕ ScriptCode
+built_node (Ok node) = if node == 0 then Ok node else Err Word
+built_node (Err code) = Err code
+
+unfoldable pub node_of : List ℕ → Result ℕ ScriptCode
+node_of word = built_node (number_up_to 4 word)
 
 -- a name of 1 to 64 bytes
 unfoldable pub name_of : List ℕ → Result (List ℕ) ScriptCode

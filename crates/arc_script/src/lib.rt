@@ -1,6 +1,7 @@
 //! Scripts: the text of a drill, read into steps.
 //!
-//! It stands on `arc_data` for what a call asks for, and on `memchr` for the ends of lines. The drill stands on it.
+//! It stands on `arc_data` for what a call asks for, on `arc_json` for the bodies of calls and the codes of their tests, and
+//! on `memchr` for the ends of lines. The drill stands on it.
 //!
 //! The law that it keeps: a text is read exactly by its grammar, which `specs/` states apart from this code. What is in
 //! the grammar is read as the steps that it spells, and what isn't is refused with its first bad line and the code of
@@ -10,7 +11,10 @@
 //! empty or begins with `#` is no step. Words are separated by one space.
 #![tactic(auto)]
 
+mod calls;
+mod config;
 mod end;
+mod items;
 mod laws;
 mod lines;
 mod script;
@@ -21,6 +25,3 @@ use end::LineEnd;
 pub use laws::{numbers_have_one_spelling, spelled_lines_are_read};
 pub use script::read_script;
 pub use step::{MAX_SCRIPT, ScriptCode, ScriptEnd, Step};
-
-#[cfg(test)]
-mod tests;

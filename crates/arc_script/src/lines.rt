@@ -1,101 +1,55 @@
-//! Reading one line of words.
+//! Reading one line.
 ghost use Rattle.std.specs.Prelude.{◌≡◌, ◌==◌, map, IfOk};
-ghost use Rattle.std.specs.List.{list_any, slice_split};
-ghost use Rattle.arc_script.specs.Grammar.{call, head_of, new_line, get_line, set_line, is_empty, shaped, step_of_words, step_of};
+ghost use Rattle.std.specs.List.{slice_split};
+ghost use Rattle.arc_script.specs.Grammar.{slots_line, crash_line, restart_line, shaped, step_of_words, step_of_text, step_of};
 ghost use Rattle.arc_script.specs.Reading.{Spells, Reads};
 ghost use Rattle.arc_script.specs.Steps.{IsValidStep};
-ghost use Rattle.arc_data.specs.Valid.{IsValid};
-ghost use Rattle.arc_data.specs.declared.op.Op.{Op};
 
-use crate::step::Head;
-use crate::words::{read_endpoint, read_long, read_name, read_number, read_state};
+use crate::calls::{read_assert, read_batch, read_call, read_gate, read_get, read_new, read_set};
+use crate::words::{cut, has_empty, parts_of, read_count, read_node};
 use crate::{LineEnd, ScriptCode, Step};
-use arc_data::{Batch, ControlId, Entry, List, MAX_MS, Op, PanelId, Text};
 use std::alloc::{AllocError, Global};
 
-/// The one panel that there is.
-const FIRST_PANEL: PanelId = PanelId(1);
+/// The most slots of a list.
+const MOST_SLOTS: u64 = 16_384;
 
-impl Head {
-    /// The call that asks for this.
-    fn call(self, op: Op) -> Step
-        ensures { result ≡ call self op }
-    {
-        Step::Call {
-            node: self.node,
-            at_ms: self.at_ms,
-            token: self.token,
-            op,
-        }
-    }
-}
-
-/// Endpoint, time and token.
-#[tactic(auto, unfolding(crate::specs::Grammar::head_of))]
-fn read_head(endpoint: &str, time: &str, token: &str) -> Result<Head, ScriptCode>
-    ensures exact { result ≡ head_of endpoint.now time.now token.now }
-    ensures within { IfOk result (λ head. (op : Op) → IsValid op → IsValidStep (call head op)) }
-{
-    let node = read_endpoint(endpoint)?;
-    let at_ms = read_number(MAX_MS, time)?;
-    let token = read_long(token)?;
-    Ok(Head { node, at_ms, token })
-}
-
-/// `new E T K name`
-#[tactic(auto, unfolding(crate::specs::Grammar::new_line))]
-fn read_new(alloc: Global, fields: &[&str]) -> Result<Step, LineEnd>
-    ensures exact { Reads result (new_line (map (λ field. field.now) fields.now)) }
+/// `slots N`
+#[tactic(auto, unfolding(crate::specs::Grammar::slots_line))]
+fn read_slots(fields: &[&str]) -> Result<Step, ScriptCode>
+    ensures exact { result ≡ slots_line (map (λ field. field.now) fields.now) }
     ensures valid { IfOk result IsValidStep }
 {
-    let &[endpoint, time, token, name] = fields else {
-        return Err(LineEnd::Bad(ScriptCode::Shape));
+    let &[slots] = fields else {
+        return Err(ScriptCode::Shape);
     };
-    let head = read_head(endpoint, time, token)?;
-    let name = Text::of(alloc, read_name(name)?)?;
-    Ok(head.call(Op::CreateRoutingControl {
-        name,
-        panel: FIRST_PANEL,
-    }))
+    let n = read_count(MOST_SLOTS, slots)? as u32;
+    Ok(Step::Slots { n })
 }
 
-/// `get E T K c`
-#[tactic(auto, unfolding(crate::specs::Grammar::get_line))]
-fn read_get(fields: &[&str]) -> Result<Step, LineEnd>
-    ensures exact { Reads result (get_line (map (λ field. field.now) fields.now)) }
+/// `crash P`
+#[tactic(auto, unfolding(crate::specs::Grammar::crash_line))]
+fn read_crash(fields: &[&str]) -> Result<Step, ScriptCode>
+    ensures exact { result ≡ crash_line (map (λ field. field.now) fields.now) }
     ensures valid { IfOk result IsValidStep }
 {
-    let &[endpoint, time, token, control] = fields else {
-        return Err(LineEnd::Bad(ScriptCode::Shape));
+    let &[node] = fields else {
+        return Err(ScriptCode::Shape);
     };
-    let head = read_head(endpoint, time, token)?;
-    let control = ControlId(read_long(control)?);
-    Ok(head.call(Op::GetRoutingControlState { control }))
+    let node = read_node(node)?;
+    Ok(Step::Crash { node })
 }
 
-/// `set E T K c On` or `Off`
-#[tactic(auto, unfolding(crate::specs::Grammar::set_line))]
-fn read_set(alloc: Global, fields: &[&str]) -> Result<Step, LineEnd>
-    ensures exact { Reads result (set_line (map (λ field. field.now) fields.now)) }
+/// `restart P`
+#[tactic(auto, unfolding(crate::specs::Grammar::restart_line))]
+fn read_restart(fields: &[&str]) -> Result<Step, ScriptCode>
+    ensures exact { result ≡ restart_line (map (λ field. field.now) fields.now) }
     ensures valid { IfOk result IsValidStep }
 {
-    let &[endpoint, time, token, control, state] = fields else {
-        return Err(LineEnd::Bad(ScriptCode::Shape));
+    let &[node] = fields else {
+        return Err(ScriptCode::Shape);
     };
-    let head = read_head(endpoint, time, token)?;
-    let control = ControlId(read_long(control)?);
-    let on = read_state(state)?;
-    let entries = List::of(vec![in alloc; Entry { control, on }]?);
-    let overrides = List::of(Vec::new(alloc));
-    let batch = Batch { entries, overrides };
-    Ok(head.call(Op::UpdateRoutingControlState { batch }))
-}
-
-/// Whether a word is empty.
-fn has_empty(words: &[&str]) -> bool
-    ensures { result ≡ list_any (λ word. is_empty word.now) words.now }
-{
-    words.iter().any(|word| word.is_empty())
+    let node = read_node(node)?;
+    Ok(Step::Restart { node })
 }
 
 /// The words after the first, none of which is empty.
@@ -120,9 +74,15 @@ fn read_words(alloc: Global, words: &[&str]) -> Result<Step, LineEnd>
         return Err(LineEnd::Bad(ScriptCode::Word));
     };
     match *first {
+        "slots" => Ok(read_slots(read_fields(fields)?)?),
         "new" => read_new(alloc, read_fields(fields)?),
         "get" => read_get(read_fields(fields)?),
         "set" => read_set(alloc, read_fields(fields)?),
+        "batch" => read_batch(alloc, read_fields(fields)?),
+        "assert" => read_assert(alloc, read_fields(fields)?),
+        "gate" => read_gate(alloc, read_fields(fields)?),
+        "crash" => Ok(read_crash(read_fields(fields)?)?),
+        "restart" => Ok(read_restart(read_fields(fields)?)?),
         _ => Err(LineEnd::Bad(ScriptCode::Word)),
     }
 }
@@ -131,7 +91,20 @@ fn read_words(alloc: Global, words: &[&str]) -> Result<Step, LineEnd>
 fn words_of(alloc: Global, text: &str) -> Result<Vec<&str>, AllocError>
     ensures { IfOk result (λ words. map (λ word. word.now) words.items ≡ slice_split (λ b. b == 32) text.now) }
 {
-    text.split(' ').collect(alloc)
+    parts_of(alloc, text, ' ')
+}
+
+/// The step that a text spells.
+fn read_text(alloc: Global, text: &str) -> Result<Step, LineEnd>
+    ensures exact { Reads result (step_of_text text.now) }
+    ensures valid { IfOk result IsValidStep }
+{
+    let (first, rest) = cut(text, ' ');
+    if first == "call" {
+        return read_call(alloc, rest);
+    }
+    let words = words_of(alloc, text)?;
+    read_words(alloc, words.as_slice())
 }
 
 /// The step that a line spells.
@@ -143,6 +116,5 @@ pub fn read_step(alloc: Global, line: &[u8]) -> Result<Step, LineEnd>
     let Ok(text) = std::str::from_utf8(line) else {
         return Err(LineEnd::Bad(ScriptCode::NotUtf8));
     };
-    let words = words_of(alloc, text)?;
-    read_words(alloc, words.as_slice())
+    read_text(alloc, text)
 }

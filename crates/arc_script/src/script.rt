@@ -1,11 +1,11 @@
 //! Reading a whole script.
-ghost use Rattle.std.specs.Prelude.{◌≡◌, ◌+◌, ◌<◌, ◌≤◌, ℕ, List, [], ◌∷◌, length, MatchOption, IfSome, IfOk, IfErr, OnOk};
+ghost use Rattle.std.specs.Prelude.{false, ◌≡◌, ◌+◌, ◌<◌, ◌≤◌, ℕ, List, [], ◌∷◌, length, MatchOption, IfSome, IfOk, IfErr, OnOk};
 ghost use Rattle.std.specs.List.{All};
 ghost use Rattle.std.specs.Str.Lines.{strip_carriage_return};
 ghost use Rattle.arc_script.specs.declared.step.TheConstants.{MAX_SCRIPT};
-ghost use Rattle.arc_script.specs.Grammar.{Gives, is_step, lines_of, steps_from, steps_of};
-ghost use Rattle.arc_script.specs.Reading.{behind, Fails};
-ghost use Rattle.arc_script.specs.Steps.{IsValidStep};
+ghost use Rattle.arc_script.specs.Grammar.{Gives, is_step, is_misplaced, lines_of, step_at, steps_from, steps_of};
+ghost use Rattle.arc_script.specs.Reading.{behind, begun, Fails, Reads};
+ghost use Rattle.arc_script.specs.Steps.{IsValidStep, SlotsComeFirst};
 
 use crate::lines::read_step;
 use crate::{LineEnd, MAX_SCRIPT, ScriptCode, ScriptEnd, Step};
@@ -41,6 +41,29 @@ fn is_step(line: &[u8]) -> bool
     !matches!(line, [] | [b'#', ..])
 }
 
+/// Whether a step may not stand behind those before it: only the first says how many slots there are.
+fn is_misplaced(before: &[Step], step: &Step) -> bool
+    ensures { result ≡ is_misplaced (begun before.now) step.now }
+{
+    match before {
+        [] => false,
+        [_, ..] => matches!(step, Step::Slots { .. }),
+    }
+}
+
+/// The step of a line behind those before it.
+fn read_placed(alloc: Global, before: &[Step], line: &[u8]) -> Result<Step, LineEnd>
+    ensures exact { Reads result (step_at (begun before.now) line.now) }
+    ensures valid { IfOk result IsValidStep }
+    ensures placed { IfOk result (λ step. is_misplaced (begun before.now) step ≡ false) }
+{
+    let step = read_step(alloc, line)?;
+    if is_misplaced(before, &step) {
+        return Err(LineEnd::Bad(ScriptCode::Slots));
+    }
+    Ok(step)
+}
+
 /// Reads the line of this number, and adds the step that it may be to those before it.
 fn read_line(
     alloc: Global,
@@ -50,16 +73,17 @@ fn read_line(
 ) -> Result<(), ScriptEnd>
     // Whatever lines follow, they are read behind the steps so far.
     ensures ok { OnOk result ((lines : List (List ℕ)) →
-        behind steps.old.items (steps_from number (line.now ∷ lines))
-        ≡ behind steps.new.items (steps_from (number + 1) lines)) }
+        behind steps.old.items (steps_from (begun steps.old.items) number (line.now ∷ lines))
+        ≡ behind steps.new.items (steps_from (begun steps.new.items) (number + 1) lines)) }
     ensures err { IfErr result (λ end. (lines : List (List ℕ)) →
-        Fails end (steps_from number (line.now ∷ lines))) }
+        Fails end (steps_from (begun steps.old.items) number (line.now ∷ lines))) }
     ensures valid { OnOk result (All IsValidStep steps.old.items → All IsValidStep steps.new.items) }
+    ensures first { OnOk result (SlotsComeFirst steps.old.items → SlotsComeFirst steps.new.items) }
 {
     if !is_step(line) {
         return Ok(());
     }
-    match read_step(alloc, line) {
+    match read_placed(alloc, steps.as_slice(), line) {
         Ok(step) => match steps.push(step) {
             Ok(()) => Ok(()),
             Err(_) => Err(ScriptEnd::Memory),
@@ -72,8 +96,9 @@ fn read_line(
 /// The steps of the lines of a text.
 fn read_lines(alloc: Global, text: &[u8]) -> Result<Vec<Step>, ScriptEnd>
     requires { length text.now ≤ MAX_SCRIPT }
-    ensures exact { Gives (λ steps. steps.items) result (steps_from 1 (lines_of text.now)) }
+    ensures exact { Gives (λ steps. steps.items) result (steps_from false 1 (lines_of text.now)) }
     ensures valid { IfOk result (λ steps. All IsValidStep steps.items) }
+    ensures first { IfOk result (λ steps. SlotsComeFirst steps.items) }
 {
     let mut steps = Vec::new(alloc);
     let mut rest = text;
@@ -94,6 +119,7 @@ fn read_lines(alloc: Global, text: &[u8]) -> Result<Vec<Step>, ScriptEnd>
 pub fn read_script(alloc: Global, bytes: &[u8]) -> Result<Vec<Step>, ScriptEnd>
     ensures exact { Gives (λ steps. steps.items) result (steps_of bytes.now) }
     ensures valid { IfOk result (λ steps. All IsValidStep steps.items) }
+    ensures first { IfOk result (λ steps. SlotsComeFirst steps.items) }
 {
     if bytes.len() > MAX_SCRIPT {
         return Err(ScriptEnd::BadScript {

@@ -1,5 +1,6 @@
 //! The steps of a script, and why a text is none.
 use arc_data::Op;
+use arc_json::Code;
 
 /// The longest script, in bytes.
 pub const MAX_SCRIPT: usize = 16_777_216;
@@ -15,6 +16,11 @@ pub struct Head {
 /// One step of a drill.
 #[derive(Debug, Drop)]
 pub enum Step {
+    /// How many commands the list may hold. Only the first step says so.
+    Slots {
+        /// From 1 to 16,384.
+        n: u32,
+    },
     /// A call on an endpoint.
     Call {
         /// The node that is called.
@@ -26,6 +32,16 @@ pub enum Step {
         /// What it asks for.
         op: Op,
     },
+    /// Takes a node down, and crashes its disk.
+    Crash {
+        /// The node.
+        node: u8,
+    },
+    /// Starts a node again from what its disk kept.
+    Restart {
+        /// The node.
+        node: u8,
+    },
 }
 
 /// The first test that a bad line fails.
@@ -33,7 +49,7 @@ pub enum Step {
 pub enum ScriptCode {
     /// The line isn't UTF-8.
     NotUtf8,
-    /// The first word is none that is known, or an endpoint isn't built.
+    /// The first word is none that is known, or an endpoint or a node isn't built.
     Word,
     /// There are too many or too few words, or one is empty.
     Shape,
@@ -43,8 +59,14 @@ pub enum ScriptCode {
     Name,
     /// A state is neither `On` nor `Off`.
     State,
+    /// A configuration of a rule is none, or its threshold is 0 or above the number of controls.
+    Config,
+    /// A `slots` line isn't the first step.
+    Slots,
     /// The script is longer than `MAX_SCRIPT`; its line is 0.
     TooLong,
+    /// A list, or the operation and body of a `call`, isn't one that can be asked for.
+    Call(Code),
 }
 
 /// Why a script wasn't read.

@@ -1,15 +1,18 @@
 //! Reading single words.
-ghost use Rattle.std.specs.Prelude.{◌≡◌, ◌<◌, ◌≤◌, IfOk};
+ghost use Rattle.std.specs.Prelude.{◌≡◌, ◌<◌, ◌≤◌, ◌==◌, length, map, IfOk};
 ghost use Rattle.std.specs.Char.{is_ascii_digit};
-ghost use Rattle.std.specs.List.{list_all};
+ghost use Rattle.std.specs.List.{list_all, list_any, slice_split, before_first, after_first};
 ghost use Rattle.arc_data.specs.Valid.{IsName};
-ghost use Rattle.arc_script.specs.Words.{is_number, number_up_to, long_number, endpoint_of, name_of, state_of};
+ghost use Rattle.arc_script.specs.Words.{is_number, number_up_to, long_number, node_of, count_up_to, name_of, state_of};
+ghost use Rattle.arc_script.specs.Grammar.{is_empty};
 ghost use Rattle.arc_script.specs.Reading.{Spells};
+ghost use Rattle.arc_script.specs.Steps.{IsBuilt};
 
 use crate::ScriptCode;
+use std::alloc::{AllocError, Global};
 
-/// The highest endpoint.
-const LAST_ENDPOINT: u64 = 4;
+/// The highest node.
+const LAST_NODE: u64 = 4;
 
 /// Whether a word has digits alone.
 fn are_digits(word: &[u8]) -> bool
@@ -55,13 +58,25 @@ pub fn read_long(word: &str) -> Result<u64, ScriptCode>
     read_number(u64::MAX, word)
 }
 
-/// An endpoint. Of the five the first is built.
-#[tactic(auto, unfolding(crate::specs::Words::endpoint_of))]
-pub fn read_endpoint(word: &str) -> Result<u8, ScriptCode>
-    ensures exact { result ≡ endpoint_of word.now }
-    ensures within { IfOk result (λ node. node < 5) }
+/// A count: a number from 1 to so much.
+#[tactic(auto, unfolding(crate::specs::Words::count_up_to))]
+pub fn read_count(most: u64, word: &str) -> Result<u64, ScriptCode>
+    ensures exact { result ≡ count_up_to most word.now }
+    ensures within { IfOk result (λ n. (1 ≤ n) × (n ≤ most)) }
 {
-    match read_number(LAST_ENDPOINT, word)? {
+    match read_number(most, word)? {
+        0 => Err(ScriptCode::Number),
+        count => Ok(count),
+    }
+}
+
+/// A node. Of the five the first is built.
+#[tactic(auto, unfolding(crate::specs::Words::node_of))]
+pub fn read_node(word: &str) -> Result<u8, ScriptCode>
+    ensures exact { result ≡ node_of word.now }
+    ensures built { IfOk result IsBuilt }
+{
+    match read_number(LAST_NODE, word)? {
         0 => Ok(0),
         _ => Err(ScriptCode::Word),
     }
@@ -89,4 +104,33 @@ pub fn read_state(word: &str) -> Result<bool, ScriptCode>
         "Off" => Ok(false),
         _ => Err(ScriptCode::State),
     }
+}
+
+/// What stands before the first such character, all of it where there is none, and what stands after it.
+pub fn cut(text: &str, at: char) -> (&str, &str)
+    requires { at < 128 }
+    ensures before { result.0.now ≡ before_first (λ b. b == at) text.now }
+    ensures after { result.1.now ≡ after_first (λ b. b == at) text.now }
+{
+    match text.split_once(at) {
+        Some(parts) => parts,
+        None => (text, ""),
+    }
+}
+
+/// The parts of a text, such a character between each two.
+pub fn parts_of(alloc: Global, text: &str, between: char) -> Result<Vec<&str>, AllocError>
+    requires { between < 128 }
+    ensures exact { IfOk result (λ parts.
+        map (λ part. part.now) parts.items ≡ slice_split (λ b. b == between) text.now) }
+    ensures some { IfOk result (λ parts. 1 ≤ length parts.items) }
+{
+    text.split(between).collect(alloc)
+}
+
+/// Whether a word is empty.
+pub fn has_empty(words: &[&str]) -> bool
+    ensures { result ≡ list_any (λ word. is_empty word.now) words.now }
+{
+    words.iter().any(|word| word.is_empty())
 }
