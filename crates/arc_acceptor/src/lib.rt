@@ -10,11 +10,10 @@
 //! What the caller owes: fewer than 2^32 entries, and a slot below 2^32 - 1 in what is to be learned.
 #![tactic(auto)]
 
+mod progress;
 mod table;
 mod turned;
 
-pub use table::answer;
+pub use progress::Progress;
+pub use table::{answer, answer_at};
 pub use turned::Turned;
-
-#[cfg(test)]
-mod tests;

@@ -1,14 +1,15 @@
 //! The table of messages and answers.
-ghost use Rattle.std.specs.Prelude.{◌≡◌, ◌↔◌, ◌≤◌, ◌<◌, ◌+◌, ◌^◌, IsTrue, Some, IfOk, length, true, false};
+ghost use Rattle.std.specs.Prelude.{◌≡◌, ◌↔◌, ◌≤◌, ◌<◌, ◌+◌, ◌^◌, IsTrue, List, Some, IfOk, length, true, false};
 ghost use Rattle.std.specs.List.{slice_get};
 ghost use Rattle.arc_data.specs.Entries.{closed_len, promise, told, top_vote};
+ghost use Rattle.arc_data.specs.declared.record.Record.{Record};
 ghost use Rattle.arc_voting.specs.Chosen.{HoldsVote};
 ghost use Rattle.arc_voting.specs.Turn.{IsTurn, answers_only, appends, promise_turn, turn_of, vote_turn};
-ghost use Rattle.arc_acceptor.specs.Answering.{IsLearnable, turn_in};
+ghost use Rattle.arc_acceptor.specs.Answering.{IsLearnable, progress_of, turn_in};
 
-use crate::Turned;
+use crate::{Progress, Turned};
 use arc_bytes::Memory;
-use arc_data::{Answer, Command, Equals, Message, Record, closed_len, promise, top_vote};
+use arc_data::{Answer, Command, Equals, Message, Record, top_vote};
 use arc_voting::applied_at;
 use std::alloc::Global;
 
@@ -19,15 +20,30 @@ pub fn answer(alloc: Global, rs: &[Record], m: &Message) -> Result<Turned, Memor
     requires slot { IsLearnable m.now }
     ensures { IfOk result (λ turned. IsTurn rs.now m.now (turn_in turned)) }
 {
+    answer_at(alloc, rs, Progress::of(rs), m)
+}
+
+/// The same by one who knows how far the entries have come, so that what is learned needs no walk over them.
+pub fn answer_at(
+    alloc: Global,
+    rs: &[Record],
+    progress: Progress,
+    m: &Message,
+) -> Result<Turned, Memory>
+    requires entries { length rs.now < 2 ^ 32 }
+    requires slot { IsLearnable m.now }
+    requires progress { progress ≡ progress_of rs.now }
+    ensures { IfOk result (λ turned. IsTurn rs.now m.now (turn_in turned)) }
+{
     match m {
-        Message::Status { slot } => status(alloc, rs, *slot),
-        Message::Prepare { slot, ballot } => prepare(alloc, rs, *slot, *ballot),
+        Message::Status { slot } => status(alloc, rs, progress, *slot),
+        Message::Prepare { slot, ballot } => prepare(alloc, rs, progress, *slot, *ballot),
         Message::Accept {
             slot,
             ballot,
             command,
-        } => accept(alloc, rs, *slot, *ballot, command),
-        Message::Learn { slot, command } => learn(alloc, rs, *slot, command),
+        } => accept(alloc, rs, progress, *slot, *ballot, command),
+        Message::Learn { slot, command } => learn(alloc, rs, progress, *slot, command),
     }
 }
 
@@ -50,8 +66,8 @@ fn known(alloc: Global, slot: u32, command: &Command) -> Result<Turned, Memory>
 }
 
 /// The length of the list, the promise, and the command at the slot.
-fn status(alloc: Global, rs: &[Record], slot: u32) -> Result<Turned, Memory>
-    requires { length rs.now < 2 ^ 32 }
+fn status(alloc: Global, rs: &[Record], progress: Progress, slot: u32) -> Result<Turned, Memory>
+    requires { progress ≡ progress_of rs.now }
     ensures { IfOk result (λ t. turn_in t ≡ turn_of false rs.now (Message.Status slot)) }
 {
     let known = match applied_at(rs, slot) {
@@ -59,38 +75,50 @@ fn status(alloc: Global, rs: &[Record], slot: u32) -> Result<Turned, Memory>
         None => None,
     };
     Ok(only(Answer::At {
-        length: closed_len(rs),
-        ballot: promise(rs),
+        length: progress.length,
+        ballot: progress.promise,
         known,
     }))
 }
 
 /// A promise at the end of the list.
-fn prepare(alloc: Global, rs: &[Record], slot: u32, ballot: u64) -> Result<Turned, Memory>
-    requires { length rs.now < 2 ^ 32 }
+fn prepare(
+    alloc: Global,
+    rs: &[Record],
+    progress: Progress,
+    slot: u32,
+    ballot: u64,
+) -> Result<Turned, Memory>
+    requires { progress ≡ progress_of rs.now }
     ensures { IfOk result (λ t. turn_in t ≡ turn_of false rs.now (Message.Prepare slot ballot)) }
 {
     if let Some(command) = applied_at(rs, slot) {
         return known(alloc, slot, command);
     }
-    let length = closed_len(rs);
+    let length = progress.length;
     if length < slot {
         return Ok(only(Answer::Behind { length }));
     }
-    promise_here(alloc, rs, slot, ballot)
+    promise_here(alloc, rs, progress, slot, ballot)
 }
 
 /// A promise, in a ballot above the last one.
-fn promise_here(alloc: Global, rs: &[Record], slot: u32, ballot: u64) -> Result<Turned, Memory>
-    requires { length rs.now < 2 ^ 32 }
+fn promise_here(
+    alloc: Global,
+    rs: &[Record],
+    progress: Progress,
+    slot: u32,
+    ballot: u64,
+) -> Result<Turned, Memory>
+    requires { progress ≡ progress_of rs.now }
     ensures { IfOk result (λ t. turn_in t ≡ promise_turn rs.now slot ballot) }
 {
-    let last = promise(rs);
+    let last = progress.promise;
     if ballot <= last {
         return Ok(only(Answer::Refused { ballot: last }));
     }
     let vote = copy_vote(alloc, top_vote(rs, slot))?;
-    let from = closed_len(rs);
+    let from = progress.length;
     Ok(Turned {
         append: Some(Record::Promised { from, ballot }),
         reply: Answer::Promise { slot, ballot, vote },
@@ -114,15 +142,16 @@ fn copy_vote(alloc: Global, vote: Option<(u64, &Command)>) -> Result<Option<(u64
 fn accept(
     alloc: Global,
     rs: &[Record],
+    progress: Progress,
     slot: u32,
     ballot: u64,
     command: &Command,
 ) -> Result<Turned, Memory>
-    requires { length rs.now < 2 ^ 32 }
+    requires { progress ≡ progress_of rs.now }
     ensures { IfOk result (λ t. IsTurn rs.now (Message.Accept slot ballot command.now) (turn_in t)) }
 {
     let stands = holds_vote(rs, slot, ballot, command);
-    accept_told(alloc, stands, rs, slot, ballot, command)
+    accept_told(alloc, stands, rs, progress, slot, ballot, command)
 }
 
 /// A vote at the end of the list, where it is known whether it stands already.
@@ -130,35 +159,36 @@ fn accept_told(
     alloc: Global,
     stands: bool,
     rs: &[Record],
+    progress: Progress,
     slot: u32,
     ballot: u64,
     command: &Command,
 ) -> Result<Turned, Memory>
-    requires { length rs.now < 2 ^ 32 }
+    requires { progress ≡ progress_of rs.now }
     ensures { IfOk result (λ t. turn_in t ≡ turn_of stands rs.now (Message.Accept slot ballot command.now)) }
 {
     if let Some(command) = applied_at(rs, slot) {
         return known(alloc, slot, command);
     }
-    let length = closed_len(rs);
+    let length = progress.length;
     if length < slot {
         return Ok(only(Answer::Behind { length }));
     }
-    vote_here(alloc, stands, rs, slot, ballot, command)
+    vote_here(alloc, stands, progress.promise, slot, ballot, command)
 }
 
-/// A vote, in a ballot that isn't below the promise.
+/// A vote, in a ballot that isn't below the last promise.
 fn vote_here(
     alloc: Global,
     stands: bool,
-    rs: &[Record],
+    last: u64,
     slot: u32,
     ballot: u64,
     command: &Command,
 ) -> Result<Turned, Memory>
-    ensures { IfOk result (λ t. turn_in t ≡ vote_turn stands rs.now slot ballot command.now) }
+    ensures { IfOk result (λ t. (rs : List Record) → last ≡ promise rs →
+        turn_in t ≡ vote_turn stands rs slot ballot command.now) }
 {
-    let last = promise(rs);
     if ballot < last {
         return Ok(only(Answer::Refused { ballot: last }));
     }
@@ -177,12 +207,18 @@ fn vote_here(
 }
 
 /// A command that was chosen at the end of the list.
-fn learn(alloc: Global, rs: &[Record], slot: u32, command: &Command) -> Result<Turned, Memory>
-    requires entries { length rs.now < 2 ^ 32 }
+fn learn(
+    alloc: Global,
+    rs: &[Record],
+    progress: Progress,
+    slot: u32,
+    command: &Command,
+) -> Result<Turned, Memory>
+    requires progress { progress ≡ progress_of rs.now }
     requires slot { slot + 1 < 2 ^ 32 }
     ensures { IfOk result (λ t. turn_in t ≡ turn_of false rs.now (Message.Learn slot command.now)) }
 {
-    let length = closed_len(rs);
+    let length = progress.length;
     if slot < length {
         return Ok(only(Answer::Learned { length }));
     }

@@ -1,7 +1,7 @@
 -- The device calls of one step behind those of another.
-use Rattle.std.proofs.Common.{◌≡◌, ◌≤◌, ◌<◌, ◌+◌, ℕ, Option, Some, None, Result, Ok, Err, true, false, arith}
+use Rattle.std.proofs.Common.{◌+◌, ℕ, Option, Some, None, Result, Ok, Err, true, arith}
 use Rattle.std.specs.Prelude.{MatchResult}
-use Rattle.arc_journal.specs.Runs.{IsRun, NoStopWithin, OpensInRun}
+use Rattle.arc_journal.specs.Runs.{OpensInRun}
 use Rattle.arc_journal.specs.declared.end.JournalEnd.{JournalEnd}
 use Rattle.arc_journal.specs.declared.end.JournalEnd.TheVariants as reading
 use Rattle.arc_journal.proofs.RunLemmas.{run_behind, run_well_behind, writes_behind}

@@ -1,5 +1,5 @@
 -- When a node is in order.
-use Rattle.std.proofs.Common.{◌≡◌, ◌⊎◌, ⊎_elim, ℕ, List, [], ◌∷◌, ◌++◌, Option, Some, None, true, inl, inr, refl, sym, subst}
+use Rattle.std.proofs.Common.{◌≡◌, ◌⊎◌, ⊎_elim, ℕ, List, Some, true, inl, inr, refl, subst}
 use Rattle.arc_data.specs.declared.record.Record.{Record}
 use Rattle.arc_data.specs.declared.message.Message.{Message}
 use Rattle.arc_journal.specs.Image.{IsJournalOf}
@@ -9,7 +9,7 @@ use Rattle.arc_node.specs.declared.node.Node.{Node}
 use Rattle.arc_node.specs.declared.standing.Standing.{Standing}
 use Rattle.arc_node.specs.declared.standing.Standing.TheVariants.{Asleep, Up, Down, Retired}
 use Rattle.arc_node.specs.Handling.{HasTurn}
-use Rattle.arc_node.specs.Node.{is_standing_up, doubt_of, kept, number_of, slots_in, HasLimits, IsInOrder, IsPossible, MayRead, UnlessDown}
+use Rattle.arc_node.specs.Node.{is_standing_up, kept, number_of, slots_in, IsPossible, MayRead, UnlessDown}
 use Rattle.arc_node.specs.Starting.{HasStart}
 
 -- what is asked of a node that isn't down holds of one that is up

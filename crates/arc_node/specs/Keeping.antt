@@ -1,5 +1,5 @@
 -- What becomes of an up node that appends an entry.
-use Rattle.std.specs.Prelude.{ℕ, ◌≡◌, ◌⊎◌, ◌≤◌, ◌<◌, true, false, Option, None, Some, List, [], ◌∷◌, ◌++◌, length}
+use Rattle.std.specs.Prelude.{ℕ, ◌≡◌, ◌⊎◌, ◌≤◌, ◌<◌, true, false, Option, None, Some, [], ◌∷◌, ◌++◌, length}
 use Rattle.arc_bytes.specs.Counts.{HasRisen}
 use Rattle.arc_data.specs.declared.record.Record.{Record}
 use Rattle.arc_journal.specs.Runs.{IsRun, NoStopWithin}

@@ -5,3 +5,4 @@ pub mod Calls
 pub mod Appending
 pub mod Keeping
 pub mod Comparing
+pub mod Totals

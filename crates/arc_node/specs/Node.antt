@@ -1,5 +1,5 @@
 -- What a node keeps, and what may be on its disk.
-use Rattle.std.specs.Prelude.{ℕ, ◌≡◌, ◌⊎◌, ◌<◌, ◌≤◌, ◌+◌, Bool, true, false, ⊤, Option, None, Some, List, [], ◌∷◌, ◌++◌, length}
+use Rattle.std.specs.Prelude.{ℕ, ◌≡◌, ◌<◌, ◌≤◌, ◌+◌, Bool, true, false, ⊤, Option, None, Some, List, length}
 use Rattle.arc_data.specs.declared.record.Record.{Record}
 use Rattle.arc_journal.specs.Layout.{entry_limit}
 use Rattle.arc_journal.specs.Image.{records_of, IsJournalOf}
@@ -24,7 +24,7 @@ slots_in node = slots_of node.journal
 
 -- The entries that it keeps.
 abbrev pub kept : {D : Type 0} → Node D → List Record
-kept node = node.records.items
+kept node = node.entries
 
 -- The entry of which it doesn't know whether its disk has it.
 abbrev pub doubt_of : {D : Type 0} → Node D → Option Record

@@ -1,5 +1,5 @@
 -- What waking and restarting make of a node.
-use Rattle.std.specs.Prelude.{ℕ, ◌≡◌, ◌≢◌, ◌⊎◌, ◌+◌, ◌<◌, ⊤, Bool, true, false, Option, None, Some, List, [], ◌∷◌, ◌++◌, length, take}
+use Rattle.std.specs.Prelude.{ℕ, ◌≡◌, ◌≢◌, ◌⊎◌, ◌+◌, ◌<◌, ⊤, true, false, Option, None, Some, List, [], ◌∷◌, ◌++◌, length, take}
 use Rattle.std.specs.List.{slice_get}
 use Rattle.arc_bytes.specs.Counts.{HasRisen}
 use Rattle.arc_data.specs.declared.record.Record.{Record}

@@ -46,6 +46,13 @@ fn push_within(list: &mut Vec<Record>, entry: Record)
     }
 }
 
+/// How an append ended that left nothing of the entry.
+fn without(_entry: Record, end: Appended) -> Appended
+    ensures { result ≡ end }
+{
+    end
+}
+
 /// Appends an entry to a journal, and then to the list of its entries. The list has room for it before the journal has
 /// it, so that no entry is on the disk that the list lacks.
 pub(crate) fn append_entry<D: Disk>(
@@ -66,13 +73,13 @@ pub(crate) fn append_entry<D: Disk>(
 {
     match list.reserve(1) {
         Ok(()) => {}
-        Err(_) => return Appended::Memory,
+        Err(_) => return without(entry, Appended::Memory),
     }
     match journal.append(&entry) {
         Ok(()) => {}
         Err(AppendEnd::Disk) => return Appended::Doubtful(entry),
-        Err(AppendEnd::Full { count }) => return Appended::Full { count },
-        Err(AppendEnd::Memory) => return Appended::Memory,
+        Err(AppendEnd::Full { count }) => return without(entry, Appended::Full { count }),
+        Err(AppendEnd::Memory) => return without(entry, Appended::Memory),
     }
     push_within(list, entry);
     Appended::Done

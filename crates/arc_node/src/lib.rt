@@ -13,6 +13,7 @@
 
 mod appending;
 mod comparing;
+mod entries;
 mod handle_end;
 mod node;
 mod restart;
@@ -23,6 +24,3 @@ pub use arc_journal::JournalEnd;
 pub use handle_end::HandleEnd;
 pub use node::Node;
 pub use restart::Restart;
-
-#[cfg(test)]
-mod tests;

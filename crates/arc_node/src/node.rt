@@ -18,14 +18,15 @@ ghost use Rattle.arc_node.specs.Keeping.{KeepsEntry, KeepsInRun};
 ghost use Rattle.arc_node.specs.Node.{HasEntries, HasLimits, IsAsleep, IsInOrder, IsPossible, IsSameNode, KeepsList, MayRead, disk_in, doubt_of, is_up, kept, number_of, slots_in};
 ghost use Rattle.arc_node.specs.Starting.{IsCreated, IsDamage, IsNoAccusation, LeavesStarted, Restarts, Starts, Wakes, restart_of};
 
-use crate::appending::{Appended, Kept, append_entry};
+use crate::appending::{Appended, Kept};
 use crate::comparing::{agreement, copy_at, is_kept_or_with};
+use crate::entries::Entries;
 use crate::standing::Standing;
-use crate::starts::{last_inc, opened_count, since_opened};
+use crate::starts::opened_count;
 use crate::{HandleEnd, Restart};
-use arc_acceptor::{Turned, answer};
+use arc_acceptor::{Turned, answer_at};
 use arc_bytes::Memory;
-use arc_data::{Answer, Command, CommandId, Message, Record, closed_len};
+use arc_data::{Answer, Command, CommandId, Message, Record};
 use arc_disk::{Disk, Rig};
 use arc_journal::{Journal, JournalEnd};
 use arc_voting::applied_at;
@@ -35,7 +36,7 @@ use std::alloc::Global;
 #[derive(Drop)]
 pub struct Node<D: Disk> {
     journal: Journal<D>,
-    records: Vec<Record>,
+    entries: Entries,
     /// The entry of which the node doesn't know whether its disk has it.
     doubt: Option<Record>,
     standing: Standing,
@@ -57,6 +58,8 @@ impl<D: Disk> Node<D> {
         ensures created { IfOk result (λ n. IsCreated n node max_slots) }
         ensures answer { IfErr result (λ e. IsNoRefusal e.1) }
         ensures fault { IfErr result (λ e. e.1 ≡ JournalEnd.Disk → HasRisen (D.faults disk) (D.faults e.0)) }
+        // Where there was no memory, the disk has no entry.
+        ensures memory { D.tells → IfErr result (λ e. e.1 ≡ JournalEnd.Memory → records_of (D.content e.0) ≡ []) }
         ensures calls { MatchResult result
             (λ n. OpensInRun D.moment D.faults D.stops_in D.is_tame 6 disk (disk_in n) None)
             (λ e. OpensInRun D.moment D.faults D.stops_in D.is_tame 6 disk e.0 (Some e.1)) }
@@ -67,7 +70,7 @@ impl<D: Disk> Node<D> {
         };
         first_start(Node {
             journal,
-            records: Vec::new(alloc),
+            entries: Entries::none(alloc),
             doubt: None,
             standing: Standing::Asleep,
         })
@@ -101,7 +104,7 @@ impl<D: Disk> Node<D> {
         };
         Ok(Node {
             journal,
-            records,
+            entries: Entries::of(records),
             doubt: None,
             standing: Standing::Asleep,
         })
@@ -118,8 +121,11 @@ impl<D: Disk> Node<D> {
             (disk_in self.old) (disk_in self.new) result }
         ensures same { IsSameNode self.old self.new }
     {
-        let inc = opened_count(&self.records) + 1;
-        match append_entry(&mut self.journal, &mut self.records, Record::Opened { inc }) {
+        let inc = opened_count(self.entries.as_slice()) + 1;
+        match self
+            .entries
+            .append(&mut self.journal, Record::Opened { inc })
+        {
             Appended::Done => {
                 self.standing = Standing::Up;
                 Restart::Up { inc }
@@ -166,7 +172,13 @@ impl<D: Disk> Node<D> {
             (disk_in self.old) (disk_in self.new) result }
         ensures same { IsSameNode self.old self.new }
     {
-        let Turned { append, reply } = match answer(alloc, &self.records, message) {
+        let progress = self.entries.progress();
+        let Turned { append, reply } = match answer_at(
+            alloc,
+            self.entries.as_slice(),
+            progress,
+            message,
+        ) {
             Ok(turned) => turned,
             Err(Memory) => return HandleEnd::Memory,
         };
@@ -195,7 +207,7 @@ impl<D: Disk> Node<D> {
             (disk_in self.old) (disk_in self.new) result }
         ensures same { IsSameNode self.old self.new }
     {
-        match append_entry(&mut self.journal, &mut self.records, entry) {
+        match self.entries.append(&mut self.journal, entry) {
             Appended::Done => Kept::Done,
             Appended::Doubtful(entry) => {
                 put(&mut self.doubt, entry);
@@ -230,42 +242,42 @@ impl<D: Disk> Node<D> {
             Ok(found) => found,
             Err(end) => return refused(end),
         };
-        if !is_kept_or_with(&self.records, &self.doubt, &found) {
-            return damaged(alloc, &self.records, &found);
+        if !is_kept_or_with(self.entries.as_slice(), &self.doubt, &found) {
+            return damaged(alloc, self.entries.as_slice(), &found);
         }
-        self.start_behind(found)
+        self.start_behind(Entries::of(found))
     }
 
     /// Starts a node that is down behind the list that its journal has, and keeps that list instead of its own unless
     /// there is no memory.
-    fn start_behind(&mut self, found: Vec<Record>) -> Restart
+    fn start_behind(&mut self, found: Entries) -> Restart
         requires limits { HasLimits self.old }
         requires down { self.old.standing ≡ Standing.Down }
-        requires has { HasEntries D.tells D.content D.may_leave self.old.journal found.items }
-        requires possible { IsPossible self.old found.items }
+        requires has { HasEntries D.tells D.content D.may_leave self.old.journal found }
+        requires possible { IsPossible self.old found }
         ensures in_order { IsInOrder D.tells D.content D.may_leave self.new }
-        ensures starts { Starts D.faults self.old self.new found.items result }
+        ensures starts { Starts D.faults self.old self.new found result }
         ensures any_moment { D.tells → LeavesStarted D.moment D.left_since self.old self.new }
         ensures calls { StartsInRun D.moment D.faults D.stops_in D.is_tame 0
             (disk_in self.old) (disk_in self.new) result }
         ensures same { IsSameNode self.old self.new }
     {
         let mut list = found;
-        let inc = opened_count(&list) + 1;
-        match append_entry(&mut self.journal, &mut list, Record::Opened { inc }) {
+        let inc = opened_count(list.as_slice()) + 1;
+        match list.append(&mut self.journal, Record::Opened { inc }) {
             Appended::Done => {
-                self.records = list;
+                self.entries = list;
                 self.doubt = None;
                 self.standing = Standing::Up;
                 Restart::Up { inc }
             }
             Appended::Doubtful(entry) => {
-                self.records = list;
+                self.entries = list;
                 put(&mut self.doubt, entry);
                 Restart::Disk
             }
             Appended::Full { count } => {
-                self.records = list;
+                self.entries = list;
                 self.doubt = None;
                 self.standing = Standing::Retired;
                 Restart::Full { count }
@@ -339,7 +351,7 @@ impl<D: Disk> Node<D> {
     pub fn inc(&self) -> u32
         ensures { result ≡ last_inc (kept self.now) }
     {
-        last_inc(&self.records)
+        self.entries.inc()
     }
 
     /// How many commands are in its list.
@@ -347,21 +359,21 @@ impl<D: Disk> Node<D> {
         requires { HasLimits self.now }
         ensures { result ≡ closed_len (kept self.now) }
     {
-        closed_len(&self.records)
+        self.entries.progress().length
     }
 
     /// The command at this slot of its list, or `None` where the list ends before it.
     pub fn command_at(&self, slot: u32) -> Option<&Command>
         ensures { option_copied result ≡ slice_get (applied (kept self.now)) slot }
     {
-        applied_at(&self.records, slot)
+        applied_at(self.entries.as_slice(), slot)
     }
 
     /// The entries that it keeps.
     pub fn records(&self) -> &[Record]
         ensures { result.now ≡ kept self.now }
     {
-        self.records.as_slice()
+        self.entries.as_slice()
     }
 
     /// The identifier of the next command that begins at this node: its number, its last start, and how many entries it
@@ -374,8 +386,8 @@ impl<D: Disk> Node<D> {
     {
         CommandId {
             node: self.journal.node(),
-            inc: last_inc(&self.records),
-            n: since_opened(&self.records),
+            inc: self.entries.inc(),
+            n: self.entries.since(),
         }
     }
 
@@ -396,6 +408,7 @@ fn first_start<D: Disk>(node: Node<D>) -> Result<Node<D>, (D, JournalEnd)>
     ensures created { IfOk result (λ n. IsCreated n (number_of node) (slots_in node)) }
     ensures answer { IfErr result (λ e. IsNoRefusal e.1) }
     ensures fault { IfErr result (λ e. e.1 ≡ JournalEnd.Disk → HasRisen (D.faults (disk_in node)) (D.faults e.0)) }
+    ensures memory { D.tells → IfErr result (λ e. e.1 ≡ JournalEnd.Memory → records_of (D.content e.0) ≡ []) }
     ensures calls { MatchResult result
         (λ n. OpensInRun D.moment D.faults D.stops_in D.is_tame 4 (disk_in node) (disk_in n) None)
         (λ e. OpensInRun D.moment D.faults D.stops_in D.is_tame 4 (disk_in node) e.0 (Some e.1)) }

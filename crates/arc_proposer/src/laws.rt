@@ -3,8 +3,8 @@ ghost use Rattle.arc_proposer.specs.Laws.{ProposalKeepsSound, StandingVoteIsTheP
 
 use arc_voting::proposals_keep_sound;
 
-/// A vote of the endpoint for its proposal keeps sound journals sound; and where its journal has a vote in that ballot
-/// already, it is for the proposal.
+/// A vote of the endpoint for its proposal keeps sound journals sound; and where the counted promises are the latest of
+/// their nodes and nothing follows the endpoint's, a vote that its journal has in that ballot already is for the proposal.
 pub fn proposal_keeps_sound()
     ensures sound { ProposalKeepsSound }
     ensures standing { StandingVoteIsTheProposal }

@@ -29,6 +29,3 @@ mod proposer;
 
 pub use laws::proposal_keeps_sound;
 pub use proposer::Proposer;
-
-#[cfg(test)]
-mod tests;

@@ -31,8 +31,9 @@ pub fn fronts_are_handled()
     ensures { FrontsAreHandled }
 {}
 
-/// A vote for what the promises of three nodes leave to be proposed keeps sound journals sound; and where the endpoint
-/// holds a vote in that ballot already, it is for the proposal.
+/// A vote for what the promises of three nodes leave to be proposed keeps sound journals sound; and where these promises
+/// are the latest of their nodes and nothing follows the endpoint's, a vote that the endpoint holds in that ballot already
+/// is for the proposal.
 pub fn proposals_keep_sound()
     ensures sound { ProposalKeepsSound }
     ensures standing { StandingVoteIsTheProposal }

@@ -50,6 +50,3 @@ pub use laws::{
 };
 pub use majority::chosen;
 pub use rule::Rule;
-
-#[cfg(test)]
-mod tests;

@@ -20,7 +20,7 @@ pub returns-clause-any_moment : goal.returns-clause-any_moment
 returns-clause-any_moment g c = λ told order.
     let disk = g.D.Disk in
     let old = c.args.self.now in
-    let mid : Node g.row.D.Denot = record { journal = c.reopen.new.self; records = old.records; doubt = old.doubt; standing = Down } in
+    let mid : Node g.row.D.Denot = record { journal = c.reopen.new.self; entries = old.entries; doubt = old.doubt; standing = Down } in
     let new = c.start_behind.new.self in
     joined disk.moment disk.left_since (disk_in old) (disk_in mid) (disk_in new) (λ image. MayRead old image ⊎ HasStart old image)
     (widened disk.moment disk.left_since (disk_in old) (disk_in mid) (disk.may_leave (disk_in old)) (λ image. MayRead old image ⊎ HasStart old image)

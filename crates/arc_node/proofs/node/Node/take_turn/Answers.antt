@@ -1,5 +1,5 @@
 -- The node answers by the table, and keeps or leaves in doubt what the table appends.
-use Rattle.std.proofs.Common.{◌≡◌, ◌⊎◌, Option, Some, None, List, refl, sym, ◌∙◌, ap, subst, inl, inr}
+use Rattle.std.proofs.Common.{◌⊎◌, refl, sym, ◌∙◌, ap, subst, inr}
 use Rattle.arc_acceptor.specs.Answering.{turn_in}
 use Rattle.arc_journal.specs.Journal.{IsBeforeOrWith}
 use Rattle.arc_journal.proofs.Moments.{widened}
@@ -19,7 +19,7 @@ returns-in-None-clause-handles g c =
       was_up = c.requires.up;
       still_up = c.requires.up;
       turn = turn_in c.in-Ok.turned;
-      by_the_table = subst (λ l. IsTurn l c.args.message.now (turn_in c.in-Ok.turned)) c.deref.ensures.value c.in-Ok.ensures;
+      by_the_table = subst (λ l. IsTurn l c.args.message.now (turn_in c.in-Ok.turned)) c.as_slice.ensures c.in-Ok.ensures;
       answer = refl;
       entries = sym (ap (with_appended (kept old)) c.in-None.is);
       no_doubt = known.no_doubt;
@@ -27,11 +27,11 @@ returns-in-None-clause-handles g c =
 
 pub keep_entry-requires-clause-valid : goal.keep_entry-requires-clause-valid
 keep_entry-requires-clause-valid g c =
-    (turn_fits (slots_in c.args.self.now) c.deref.result.now c.args.message.now (turn_in c.in-Ok.turned) c.in-Some.entry c.requires.message c.in-Ok.ensures c.in-Some.is).0
+    (turn_fits (slots_in c.args.self.now) c.as_slice.result.now c.args.message.now (turn_in c.in-Ok.turned) c.in-Some.entry c.requires.message c.in-Ok.ensures c.in-Some.is).0
 
 pub keep_entry-requires-clause-below : goal.keep_entry-requires-clause-below
 keep_entry-requires-clause-below g c =
-    (turn_fits (slots_in c.args.self.now) c.deref.result.now c.args.message.now (turn_in c.in-Ok.turned) c.in-Some.entry c.requires.message c.in-Ok.ensures c.in-Some.is).1
+    (turn_fits (slots_in c.args.self.now) c.as_slice.result.now c.args.message.now (turn_in c.in-Ok.turned) c.in-Some.entry c.requires.message c.in-Ok.ensures c.in-Some.is).1
 
 pub returns-in-Done-clause-handles : goal.returns-in-Done-clause-handles
 returns-in-Done-clause-handles g c =
@@ -41,7 +41,7 @@ returns-in-Done-clause-handles g c =
       was_up = c.requires.up;
       still_up = keeps.0;
       turn = turn_in c.in-Ok.turned;
-      by_the_table = subst (λ l. IsTurn l c.args.message.now (turn_in c.in-Ok.turned)) c.deref.ensures.value c.in-Ok.ensures;
+      by_the_table = subst (λ l. IsTurn l c.args.message.now (turn_in c.in-Ok.turned)) c.as_slice.ensures c.in-Ok.ensures;
       answer = refl;
       entries = keeps.1 ∙ sym (ap (with_appended (kept old)) c.in-Some.is);
       no_doubt = keeps.2;
@@ -51,7 +51,7 @@ pub returns-in-Done-clause-any_moment : goal.returns-in-Done-clause-any_moment
 returns-in-Done-clause-any_moment g c = λ told.
     let disk = g.D.Disk in
     let old = c.args.self.now in
-    let is = subst (λ l. IsTurn l c.args.message.now (turn_in c.in-Ok.turned)) c.deref.ensures.value c.in-Ok.ensures in
+    let is = subst (λ l. IsTurn l c.args.message.now (turn_in c.in-Ok.turned)) c.as_slice.ensures c.in-Ok.ensures in
     widened disk.moment disk.left_since (disk_in old) (disk_in c.keep_entry.new.self)
     (IsBeforeOrWith (number_of old) (slots_in old) (kept old) c.in-Some.entry) (λ image. MayRead old image ⊎ HasTurn old c.args.message.now image)
     (with_turn old c.args.message.now (turn_in c.in-Ok.turned) c.in-Some.entry is c.in-Some.is) (c.keep_entry.ensures.any_moment told)
@@ -66,7 +66,7 @@ returns-in-Fallen-clause-handles g c =
         c.requires.up,
         record {
           turn = turn_in c.in-Ok.turned;
-          by_the_table = subst (λ l. IsTurn l c.args.message.now (turn_in c.in-Ok.turned)) c.deref.ensures.value c.in-Ok.ensures;
+          by_the_table = subst (λ l. IsTurn l c.args.message.now (turn_in c.in-Ok.turned)) c.as_slice.ensures c.in-Ok.ensures;
           entry = c.in-Some.entry;
           needed = c.in-Some.is;
           entries = keeps.1;
@@ -79,7 +79,7 @@ pub returns-in-Fallen-clause-any_moment : goal.returns-in-Fallen-clause-any_mome
 returns-in-Fallen-clause-any_moment g c = λ told.
     let disk = g.D.Disk in
     let old = c.args.self.now in
-    let is = subst (λ l. IsTurn l c.args.message.now (turn_in c.in-Ok.turned)) c.deref.ensures.value c.in-Ok.ensures in
+    let is = subst (λ l. IsTurn l c.args.message.now (turn_in c.in-Ok.turned)) c.as_slice.ensures c.in-Ok.ensures in
     widened disk.moment disk.left_since (disk_in old) (disk_in c.keep_entry.new.self)
     (IsBeforeOrWith (number_of old) (slots_in old) (kept old) c.in-Some.entry) (λ image. MayRead old image ⊎ HasTurn old c.args.message.now image)
     (with_turn old c.args.message.now (turn_in c.in-Ok.turned) c.in-Some.entry is c.in-Some.is) (c.keep_entry.ensures.any_moment told)
@@ -88,7 +88,7 @@ pub returns-in-Memory-clause-any_moment : goal.returns-in-Memory-clause-any_mome
 returns-in-Memory-clause-any_moment g c = λ told.
     let disk = g.D.Disk in
     let old = c.args.self.now in
-    let is = subst (λ l. IsTurn l c.args.message.now (turn_in c.in-Ok.turned)) c.deref.ensures.value c.in-Ok.ensures in
+    let is = subst (λ l. IsTurn l c.args.message.now (turn_in c.in-Ok.turned)) c.as_slice.ensures c.in-Ok.ensures in
     widened disk.moment disk.left_since (disk_in old) (disk_in c.keep_entry.new.self)
     (IsBeforeOrWith (number_of old) (slots_in old) (kept old) c.in-Some.entry) (λ image. MayRead old image ⊎ HasTurn old c.args.message.now image)
     (with_turn old c.args.message.now (turn_in c.in-Ok.turned) c.in-Some.entry is c.in-Some.is) (c.keep_entry.ensures.any_moment told)
