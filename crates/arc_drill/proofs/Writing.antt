@@ -58,3 +58,8 @@ pub front_after : (old mid new : Option (List ℕ)) (a b c : List ℕ) → Appen
 front_after old mid new a b c first second =
     let n = length a + length (take second.0 b) in
     (n, appends_same old new (a ++ take second.0 b) (take n (a ++ (b ++ c))) (front a b c second.0) (appends_then old mid new a (take second.0 b) first second.1))
+
+-- a prefix of a piece behind another piece is a prefix of both
+pub front_behind : (old mid new : Option (List ℕ)) (a b : List ℕ) → Appends old mid a → AppendsPrefix mid new b → AppendsPrefix old new (a ++ b)
+front_behind old mid new a b first second =
+    front_same old new (a ++ (b ++ [])) (a ++ b) (ap (λ z. a ++ z) (append-nil b)) (front_after old mid new a b [] first second)

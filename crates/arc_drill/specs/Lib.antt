@@ -1,5 +1,12 @@
 pub mod Status
+pub mod Each
+pub mod Line
 pub mod Lines
-pub mod Report
+pub mod Shown
+pub mod Calls
+pub mod Telling
+pub mod SoFar
+pub mod Obeying
 pub mod Drilled
+pub mod Since
 pub mod Steps

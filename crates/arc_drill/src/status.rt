@@ -15,6 +15,8 @@ pub enum Status {
     Memory,
     /// The text is no script; one line says where: 6.
     BadScript,
+    /// The disk failed while the node was created; nothing was written: 7.
+    DiskFailed,
 }
 
 impl Status {
@@ -28,6 +30,7 @@ impl Status {
             Status::SinkFailed => 4,
             Status::Memory => 5,
             Status::BadScript => 6,
+            Status::DiskFailed => 7,
         }
     }
 }

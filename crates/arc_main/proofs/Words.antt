@@ -4,7 +4,7 @@ use Rattle.std.specs.Prelude.{codes, nat_eq, String, string_bytes}
 use Rattle.std.specs.Global.{Global}
 use Rattle.std.specs.Cmp.Lexicographic.{pointwise}
 use Rattle.std.proofs.lemmas.Slice.Eq.{bytes_eq-Decides}
-use Rattle.arc_drill.specs.declared.status.Status.TheVariants.{Done, SourceFailed, SinkFailed, Memory, BadScript}
+use Rattle.arc_drill.specs.declared.status.Status.TheVariants.{Done, SourceFailed, SinkFailed, Memory, BadScript, DiskFailed}
 use Rattle.arc_drill.specs.Status.{IsStatus}
 use Rattle.arc_main.specs.Words.{IsDrill}
 
@@ -31,3 +31,4 @@ no_status_2 status (SourceFailed, is) two = absurd (omega arith)
 no_status_2 status (SinkFailed, is) two = absurd (omega arith)
 no_status_2 status (Memory, is) two = absurd (omega arith)
 no_status_2 status (BadScript, is) two = absurd (omega arith)
+no_status_2 status (DiskFailed, is) two = absurd (omega arith)

@@ -1,4 +1,5 @@
 //! The program over an outside in memory, worked out by hand.
+use crate::empty_disks;
 use crate::memory_outside::MemoryOutside;
 use crate::outside::Outside;
 use crate::run::run;
@@ -75,7 +76,15 @@ fn check(
     let mut out = MemorySink::new(alloc, failing.out.to_vec(alloc)?);
     let mut notes = MemorySink::new(alloc, failing.notes.to_vec(alloc)?);
     let words = words_of(alloc, words)?;
-    let status = run(alloc, words.as_slice(), &mut outside, &mut out, &mut notes);
+    let disks = empty_disks(alloc);
+    let (status, _) = run(
+        alloc,
+        words.as_slice(),
+        &mut outside,
+        &mut out,
+        &mut notes,
+        disks,
+    );
     assert_eq!(rt; status, wanted.status, "{words:?}");
     assert_eq!(rt; outside.faults(), wanted.faults, "{words:?}");
     let report = first_lines(alloc, wanted.lines)?;

@@ -1,42 +1,29 @@
-use Rattle.std.proofs.Common.{Ok, arith}
-use Rattle.arc_drill.proofs.Reporting.{reported_none, reported_more, wrote_all, wrote_some, wrote_none, wrote_front, step_at}
-use Rattle.arc_drill.proofs.Writing.{appends_same, front_same}
+use Rattle.std.proofs.Common.{None, Ok, refl, sym, subst}
+use Rattle.arc_bytes.specs.Counts.{HasRisen}
+use Rattle.arc_journal.specs.Image.{records_of}
+use Rattle.arc_node.specs.Node.{disk_in}
+use Rattle.arc_drill.specs.Drilled.{Wrote}
+use Rattle.arc_drill.proofs.Disks.{since_opened, since_same}
+use Rattle.arc_drill.proofs.Reporting.{no_entry, wrote_none}
+use Rattle.arc_drill.proofs.Starts.{reads_possible}
 use Rattle.arc_drill.proofs.report.report.Goals as goal
 
 pub returns-in_default-clause-wrote : goal.returns-in_default-clause-wrote
-returns-in_default-clause-wrote g c = wrote_none (g.K.Sink.taken c.args.out.now) (Ok c.args.steps.now)
+returns-in_default-clause-wrote g c = λ told.
+    let disk = g.D.Disk in
+    wrote_none (HasRisen (disk.faults c.args.disk) (disk.faults c.args.disk)) (records_of (disk.content c.args.disk)) (g.K.Sink.taken c.args.out.now) (Ok c.args.steps.now)
+    (no_entry (c.requires.empty told))
 
-pub loop-step-init : goal.loop-step-init
-loop-step-init g c =
-    (reported_none c.args.steps.now c.in-Ok.state (g.K.Sink.taken c.args.out.now) c.in-Ok.ensures, omega arith)
+pub returns-in_default-clause-since : goal.returns-in_default-clause-since
+returns-in_default-clause-since g c =
+    let disk = g.D.Disk in since_same disk.moment disk.faults disk.stops_in disk.is_tame c.args.disk c.args.disk refl
 
-pub returns-in_default-do_step-clause-wrote : goal.returns-in_default-do_step-clause-wrote
-returns-in_default-do_step-clause-wrote g c =
-    wrote_some c.args.steps.now c.loop-step.step-index c.loop-step.state (g.K.Sink.taken c.args.out.now) (g.K.Sink.taken c.loop-step.out) (omega arith) c.loop-step.invariant.0
-
-pub returns-clause-wrote : goal.returns-clause-wrote
-returns-clause-wrote g c =
-    wrote_all c.args.steps.now c.loop-step.step-index c.loop-step.state (g.K.Sink.taken c.args.out.now) (g.K.Sink.taken c.loop-step.out) (omega arith) c.loop-step.invariant.0
-
-pub loop-step-preserved : goal.loop-step-preserved
-loop-step-preserved g c =
-    let steps = c.args.steps.now in
-    let k = c.loop-step.step-index in
-    let taken = g.K.Sink.taken in
-    let so_far = c.loop-step.invariant.0 in
-    let did = c.in-Ok-do_step.ensures so_far.plain so_far.stands in
-    let cause = c.in-Ok-write_all.ensures.cause.later in
-    let step = step_at steps k c.step-item.result (omega arith) c.step-item.is in
-    let written = appends_same (taken c.loop-step.out) (taken c.write_all.new.out) _ _ c.deref.ensures.value c.in-Ok-write_all.ensures.writes in
-    (reported_more steps k c.loop-step.state c.do_step.new.state (taken c.args.out.now) (taken c.loop-step.out) (taken c.write_all.new.out) c.step-item.result _ so_far step did.0 did.1 written, omega arith)
-
-pub returns-in-Err-clause-wrote : goal.returns-in-Err-clause-wrote
-returns-in-Err-clause-wrote g c =
-    let steps = c.args.steps.now in
-    let k = c.loop-step.step-index in
-    let taken = g.K.Sink.taken in
-    let so_far = c.loop-step.invariant.0 in
-    let did = c.in-Ok-do_step.ensures so_far.plain so_far.stands in
-    let step = step_at steps k c.step-item.result (omega arith) c.step-item.is in
-    let written = front_same (taken c.loop-step.out) (taken c.write_all.new.out) _ _ c.deref.ensures.value c.in-Err.ensures.writes in
-    wrote_front steps k c.loop-step.state (taken c.args.out.now) (taken c.loop-step.out) (taken c.write_all.new.out) c.step-item.result _ so_far step did.0 written
+pub returns-in-Ok-create-clause-wrote : goal.returns-in-Ok-create-clause-wrote
+returns-in-Ok-create-clause-wrote g c = λ told.
+    let disk = g.D.Disk in
+    let node = c.do_steps-status.new.node in
+    let begun = since_opened disk.moment disk.faults disk.stops_in disk.is_tame 6 c.args.disk (disk_in c.in-Ok-create.node) None c.in-Ok-create.ensures.calls in
+    subst (λ d. Wrote (HasRisen (disk.faults c.args.disk) (disk.faults d)) (records_of (disk.content d)) (g.K.Sink.taken c.args.out.now) (g.K.Sink.taken c.do_steps-status.new.out) c.do_steps-status.result (Ok c.args.steps.now))
+    (sym c.give_back.ensures)
+    (c.do_steps-status.ensures.wrote told (disk.faults c.args.disk) begun.later (records_of (disk.content (disk_in node)))
+    (reads_possible disk.tells disk.content disk.may_leave g.met.D.Disk.reads_as_left node c.do_steps-status.ensures.in_order told))

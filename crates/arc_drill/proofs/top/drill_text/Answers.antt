@@ -1,6 +1,11 @@
+use Rattle.arc_bytes.specs.Counts.{HasRisen}
+use Rattle.arc_journal.specs.Image.{records_of}
 use Rattle.arc_script.specs.Grammar.{steps_of}
-use Rattle.arc_drill.proofs.Reporting.{wrote_none}
+use Rattle.arc_drill.proofs.Reporting.{no_entry, wrote_none}
 use Rattle.arc_drill.proofs.top.drill_text.Goals as goal
 
 pub returns-in-Err-Memory-clause-wrote : goal.returns-in-Err-Memory-clause-wrote
-returns-in-Err-Memory-clause-wrote g c = wrote_none (g.K.Sink.taken c.args.out.now) (steps_of c.args.text.now)
+returns-in-Err-Memory-clause-wrote g c = λ told.
+    let disk = g.D.Disk in
+    wrote_none (HasRisen (disk.faults c.args.disk) (disk.faults c.args.disk)) (records_of (disk.content c.args.disk)) (g.K.Sink.taken c.args.out.now) (steps_of c.args.text.now)
+    (no_entry (c.requires.empty told))
