@@ -1,7 +1,7 @@
-//! Requests and responses of HTTP/1.1, in the profile that this product serves.
+//! Requests and responses of HTTP/1.1, in one fixed profile.
 //!
 //! It stands on `httparse` for the grammar of heads, on `http` for the phrases of statuses, on `memchr`, and on
-//! `arc_token` for numbers and tokens. The session of a connection stands on it.
+//! `arc_token` for numbers and tokens. No session of a connection stands on it yet.
 //!
 //! A request is a head and a body. The head is what `httparse` reads in its default configuration: at most 64 fields,
 //! within the first 8,192 bytes, behind empty lines or not. It is then tested: the method, the target, the transfer

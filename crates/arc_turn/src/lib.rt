@@ -1,7 +1,7 @@
 //! The turn: a ticket lock for a value whose history only grows. What a thread saw of the value, it knows for ever:
 //! whatever it finds later begins with that.
 //!
-//! It stands on `atomic_table`, and on nothing of ours but `Memory`. The server's workers stand on it.
+//! It stands on `atomic_table` and `crossbeam_utils`, and on nothing of ours but `Memory`. No server stands on it yet.
 //!
 //! A thread carries a [`Pass`]. `take` draws a ticket, waits until that ticket is served and takes the value out of its
 //! slot. `put` puts the value back and serves the next ticket. A pass that was split from another, or that meets it,
