@@ -5,6 +5,7 @@
 mod audit;
 mod http;
 mod journal;
+mod json;
 mod turn;
 
 use std::{env, io};
@@ -16,7 +17,8 @@ fn main(rt: HostRuntime) -> io::Result<()> {
         Some("audit") => audit::measure(&rt),
         Some("http") => http::measure(&rt),
         Some("journal") => journal::measure(&rt, words.next()),
+        Some("json") => json::measure(&rt),
         Some("turn") => turn::measure(&rt, rt.alloc()),
-        _ => println!(rt; "measurements: audit, http, journal, turn"),
+        _ => println!(rt; "measurements: audit, http, journal, json, turn"),
     }
 }
