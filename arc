@@ -14,7 +14,7 @@ needs_building() {
 build() {
   local log start=$SECONDS
   log=$(mktemp) || exit 1
-  echo "arc: proving and building the program; the first time this takes about ten minutes on four processors" >&2
+  echo "arc: proving and building the program; the first time this takes about an hour" >&2
   if ! (cd "$here/crates/arc_main" && rt run -- drill </dev/null >/dev/null 2>"$log"); then
     cat "$log" >&2
     echo "arc: it wasn't built, after $((SECONDS - start)) seconds" >&2
