@@ -75,7 +75,14 @@ module _ {D : Type 0} (old mid new : Node D) (keeps : KeepsList old mid) (same :
   started_since tells faults (starts.Damaged place) count did = (shut_since did.0, did.1)
   started_since tells faults starts.Memory count did = shut_since did
 
--- ---- what the disk reads as
+-- ---- what the disk reads as, and what a crash leaves of it
+
+module _ {D : Type 0} (tells : Type 0) (content : D → List ℕ) (may_leave : D → List ℕ → Type 0) (node : Node D) where
+  -- whatever a crash leaves has a list that the node may have
+  pub leaves_possible : IsInOrder tells content may_leave node → tells → (image : List ℕ) → may_leave (disk_in node) image → IsPossible node (records_of image)
+  leaves_possible order told image left =
+      let may = order.images told image left in
+      subst (IsPossible node) (sym (journal_records (number_of node) (slots_in node) may.list image may.journal)) may.possible
 
 module _ {D : Type 0} (tells : Type 0) (content : D → List ℕ) (may_leave : D → List ℕ → Type 0) (reads_as_left : (d : D) → tells → may_leave d (content d)) (node : Node D) where
   -- a journal of the node

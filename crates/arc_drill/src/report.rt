@@ -37,6 +37,9 @@ pub(crate) fn report<K: Sink, D: Rig>(
     requires empty { D.tells → D.content disk ≡ [] }
     ensures wrote { D.tells → Wrote (HasRisen (D.faults disk) (D.faults result.1)) (records_of (D.content result.1))
         (K.taken out.old) (K.taken out.new) result.0 (Ok steps.now) }
+    ensures lasting { D.tells → result.0 ≡ Status.Done → (image : List ℕ) → D.may_leave result.1 image →
+        Wrote (HasRisen (D.faults disk) (D.faults result.1)) (records_of image)
+        (K.taken out.old) (K.taken out.new) Status.Done (Ok steps.now) }
     ensures read { result.0 ≢ Status.SourceFailed }
     ensures script { result.0 ≢ Status.BadScript }
     ensures sink_failed { result.0 ≡ Status.SinkFailed → HasRisen (K.faults out.old) (K.faults out.new) }

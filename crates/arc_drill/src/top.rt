@@ -1,5 +1,5 @@
 //! The drill itself.
-ghost use Rattle.std.specs.Prelude.{◌≡◌, ◌≢◌, [], Some, IfSome, IfErr, Err};
+ghost use Rattle.std.specs.Prelude.{◌≡◌, ◌≢◌, List, ℕ, [], Some, IfSome, IfErr, Err};
 ghost use Rattle.arc_bytes.specs.Counts.{HasRisen};
 ghost use Rattle.arc_bytes.specs.Source.{AtEnd};
 ghost use Rattle.arc_drill.specs.Drilled.{AreEmpty, Drilled, KeepsOthers, Wrote};
@@ -31,6 +31,11 @@ pub fn drill<S: Source, K: Sink, D: Rig>(
     // What went out is what the script's report tells, by the status, of the journal that the first disk reads as.
     ensures drilled { D.tells → IfSome (S.left src.old) (λ text.
         Drilled (HasRisen (D.faults disks.d0) (D.faults result.1.d0)) (records_of (D.content result.1.d0))
+        (K.taken out.old) (K.taken out.new) result.0 (steps_of text)) }
+    // After 0 it lasts: the same holds of whatever a crash would leave on that disk.
+    ensures lasting { D.tells → result.0 ≡ 0 → (image : List ℕ) → D.may_leave result.1.d0 image →
+        IfSome (S.left src.old) (λ text.
+        Drilled (HasRisen (D.faults disks.d0) (D.faults result.1.d0)) (records_of image)
         (K.taken out.old) (K.taken out.new) result.0 (steps_of text)) }
     ensures status { IsStatus result.0 }
     ensures read_whole { result.0 ≡ 0 → AtEnd (S.left src.new) }
@@ -64,6 +69,9 @@ fn read_and_report<S: Source, K: Sink, D: Rig>(
     ensures wrote { D.tells → IfSome (S.left src.old) (λ text.
         Wrote (HasRisen (D.faults disk) (D.faults result.1)) (records_of (D.content result.1))
         (K.taken out.old) (K.taken out.new) result.0 (steps_of text)) }
+    ensures lasting { D.tells → result.0 ≡ Status.Done → (image : List ℕ) → D.may_leave result.1 image →
+        IfSome (S.left src.old) (λ text. Wrote (HasRisen (D.faults disk) (D.faults result.1)) (records_of image)
+        (K.taken out.old) (K.taken out.new) Status.Done (steps_of text)) }
     ensures read_whole { result.0 ≡ Status.Done → AtEnd (S.left src.new) }
     ensures source_failed { result.0 ≡ Status.SourceFailed →
         HasRisen (S.faults src.old) (S.faults src.new) × (out.new ≡ out.old) × (result.1 ≡ disk) }
@@ -88,6 +96,9 @@ fn drill_text<K: Sink, D: Rig>(alloc: Global, out: &mut K, text: &[u8], disk: D)
     requires empty { D.tells → D.content disk ≡ [] }
     ensures wrote { D.tells → Wrote (HasRisen (D.faults disk) (D.faults result.1)) (records_of (D.content result.1))
         (K.taken out.old) (K.taken out.new) result.0 (steps_of text.now) }
+    ensures lasting { D.tells → result.0 ≡ Status.Done → (image : List ℕ) → D.may_leave result.1 image →
+        Wrote (HasRisen (D.faults disk) (D.faults result.1)) (records_of image)
+        (K.taken out.old) (K.taken out.new) Status.Done (steps_of text.now) }
     ensures read { result.0 ≢ Status.SourceFailed }
     ensures sink_failed { result.0 ≡ Status.SinkFailed → HasRisen (K.faults out.old) (K.faults out.new) }
     ensures disk_failed { result.0 ≡ Status.DiskFailed → HasRisen (D.faults disk) (D.faults result.1) }
@@ -109,6 +120,7 @@ fn refuse<K: Sink>(alloc: Global, out: &mut K, line: u32, code: ScriptCode) -> S
     ensures wrote { Wrote ⊥ [] (K.taken out.old) (K.taken out.new) result (Err (line, code)) }
     ensures read { result ≢ Status.SourceFailed }
     ensures no_disk { result ≢ Status.DiskFailed }
+    ensures not_done { result ≢ Status.Done }
     ensures sink_failed { result ≡ Status.SinkFailed → HasRisen (K.faults out.old) (K.faults out.new) }
 {
     let Ok(text) = lines::of_bad_script(alloc, line, code) else {

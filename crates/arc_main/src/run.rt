@@ -34,6 +34,11 @@ pub fn run<E: Outside, K: Sink, N: Sink, D: Rig>(
     ensures drilled { IsDrill words.now → D.tells → IfSome (E.named outside.old None) (λ text.
         Drilled (HasRisen (D.faults disks.d0) (D.faults result.1.d0)) (records_of (D.content result.1.d0))
         (K.taken out.old) (K.taken out.new) result.0 (steps_of text)) }
+    // After 0 it lasts: the same holds of whatever a crash would leave on that disk.
+    ensures lasting { IsDrill words.now → D.tells → result.0 ≡ 0 → (image : List ℕ) → D.may_leave result.1.d0 image →
+        IfSome (E.named outside.old None) (λ text.
+        Drilled (HasRisen (D.faults disks.d0) (D.faults result.1.d0)) (records_of image)
+        (K.taken out.old) (K.taken out.new) result.0 (steps_of text)) }
     ensures status { IsDrill words.now → IsStatus result.0 }
     // 3 where the script can't be opened, and only where the outside failed.
     ensures unopened { IsDrill words.now → E.opens outside.old None ≡ Some false → result.0 ≡ 3 }
