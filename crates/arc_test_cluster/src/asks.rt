@@ -2,7 +2,7 @@
 use arc_data::{
     Batch, Body, Command, CommandId, ControlId, Entry, List, MAX_MS, Op, PanelId, PracticeChange,
     PracticeConfig, Refusal, Reply, ResourceId, RuleConfig, RuleId, RuleKind, RuleSpec, ShiftId,
-    ShiftItem, Text, Window, ZoneName, is_valid,
+    ShiftItem, Status, Text, Window, ZoneName, is_valid,
 };
 use arc_state::{ReadOp, State};
 use std::alloc::Global;
@@ -38,6 +38,8 @@ pub(crate) enum Ask {
     Extend(u64, u32),
     Cancel(u64),
     List,
+    /// Shifts and runs of this resource that have this status.
+    ListOf(u64, Status),
     /// Blocked dates and windows and blocking alarms; the outcome alarm is alarm 1.
     Configure(&'static [u32], &'static [(u16, u16)], &'static [u32]),
     /// Other blocked dates, other blocked windows, other outcome alarms.
@@ -277,6 +279,10 @@ fn shift_op(alloc: Global, ask: Ask) -> Result<Op, Fail> {
         Ask::List => Ok(Op::ListZonalShifts {
             resource: None,
             status: None,
+        }),
+        Ask::ListOf(resource, status) => Ok(Op::ListZonalShifts {
+            resource: Some(ResourceId(resource)),
+            status: Some(status),
         }),
         Ask::Configure(days, minutes, blocking) => configure(alloc, days, minutes, blocking),
         Ask::Reconfigure(days, minutes, outcome) => reconfigure(alloc, days, minutes, outcome),

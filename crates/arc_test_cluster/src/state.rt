@@ -1,5 +1,6 @@
 //! Commands one after another, each reply worked out by hand from what the operations promise.
 use crate::asks::{Ask, Step, check_all, give, play, read};
+use arc_data::Status;
 use arc_state::State;
 use std::test::Fail;
 
@@ -121,10 +122,9 @@ fn a_token_above_the_place_is_refused(rt: HostRuntime) -> Result<(), Fail> {
     play(&rt, &A_TOKEN_ABOVE_THE_PLACE)
 }
 
-const A_SHIFT_TO_ITS_END: [Step; 8] = [
+const ZONAL_SHIFT: [Step; 6] = [
     (0, 0, Ask::Register, "Resource { resource: ResourceId(1) }"),
     (0, 0, Ask::Start(MOST_MINUTES), "1 Active None 0 259200000"),
-    (0, 0, Ask::Start(30), "Busy { by: Customer }"),
     (
         THREE_DAYS,
         0,
@@ -140,14 +140,8 @@ const A_SHIFT_TO_ITS_END: [Step; 8] = [
     (
         THREE_DAYS + 1,
         0,
-        Ask::Extend(2, 60),
-        "2 Active None 259200000 262800001",
-    ),
-    (
-        THREE_DAYS + 1,
-        0,
         Ask::Cancel(2),
-        "2 Canceled None 259200000 262800001",
+        "2 Canceled None 259200000 261000000",
     ),
     (
         THREE_DAYS + 2,
@@ -158,22 +152,41 @@ const A_SHIFT_TO_ITS_END: [Step; 8] = [
 ];
 
 #[test]
-fn a_shift_is_over_at_its_expiry_and_is_cancelled_once(rt: HostRuntime) -> Result<(), Fail> {
-    play(&rt, &A_SHIFT_TO_ITS_END)
+fn zonal_shift(rt: HostRuntime) -> Result<(), Fail> {
+    play(&rt, &ZONAL_SHIFT)
+}
+
+/// An hour from the last moment of three days on.
+const AN_HOUR_MORE: [Step; 6] = [
+    (0, 0, Ask::Register, "Resource { resource: ResourceId(1) }"),
+    (0, 0, Ask::Start(MOST_MINUTES), "1 Active None 0 259200000"),
+    (0, 0, Ask::Start(30), "Busy { by: Customer }"),
+    (
+        THREE_DAYS - 1,
+        0,
+        Ask::Extend(1, 60),
+        "1 Active None 0 262799999",
+    ),
+    (262_799_998, 0, Ask::Start(30), "Busy { by: Customer }"),
+    (
+        262_799_999,
+        0,
+        Ask::Start(30),
+        "2 Active None 262799999 264599999",
+    ),
+];
+
+#[test]
+fn an_update_counts_from_its_own_time(rt: HostRuntime) -> Result<(), Fail> {
+    play(&rt, &AN_HOUR_MORE)
 }
 
 const WINDOW: &str = "Blocked { cause: BlockedWindow }";
 
-const A_RUN_AND_A_SHIFT: [Step; 14] = [
+/// A run that starts once its blocked window is over, with the outcome alarm 1.
+const A_RUN_STARTS: [Step; 5] = [
     (0, 0, Ask::Register, "Resource { resource: ResourceId(1) }"),
-    (
-        0,
-        0,
-        Ask::StartRun(1),
-        "NotConfigured { resource: ResourceId(1) }",
-    ),
     (0, 0, Ask::Configure(&[], NIGHT, &[]), "done"),
-    (0, 0, Ask::StartRun(3), "WrongZone { zone: \"use1-az3\" }"),
     (343_800_000, 0, Ask::StartRun(1), WINDOW),
     (347_340_000, 0, Ask::StartRun(1), WINDOW),
     (
@@ -182,7 +195,9 @@ const A_RUN_AND_A_SHIFT: [Step; 14] = [
         Ask::StartRun(1),
         "1 Active Some(Pending) 347400000 349200000",
     ),
-    (RUN_START, 0, Ask::StartRun(1), "Busy { by: PracticeRun }"),
+];
+
+const A_SHIFT_BESIDE_IT: [Step; 6] = [
     (
         347_500_000,
         0,
@@ -217,8 +232,42 @@ const A_RUN_AND_A_SHIFT: [Step; 14] = [
 ];
 
 #[test]
-fn a_shift_interrupts_a_run_and_comes_before_an_autoshift(rt: HostRuntime) -> Result<(), Fail> {
-    play(&rt, &A_RUN_AND_A_SHIFT)
+fn practice_run(rt: HostRuntime) -> Result<(), Fail> {
+    let mut state = State::fresh(rt.alloc())?;
+    check_all(&rt, &mut state, &A_RUN_STARTS)?;
+    check_all(&rt, &mut state, &A_SHIFT_BESIDE_IT)
+}
+
+const NO_START_OF_A_RUN: [Step; 9] = [
+    (0, 0, Ask::Register, "Resource { resource: ResourceId(1) }"),
+    (
+        0,
+        0,
+        Ask::StartRun(1),
+        "NotConfigured { resource: ResourceId(1) }",
+    ),
+    (0, 0, Ask::Configure(&[], &[], &[]), "done"),
+    (
+        0,
+        0,
+        Ask::Configure(&[], &[], &[]),
+        "Configured { resource: ResourceId(1) }",
+    ),
+    (0, 0, Ask::StartRun(3), "WrongZone { zone: \"use1-az3\" }"),
+    (0, 0, Ask::Start(30), "1 Active None 0 1800000"),
+    (1, 0, Ask::StartRun(1), "Busy { by: Customer }"),
+    (
+        1_800_000,
+        0,
+        Ask::StartRun(1),
+        "2 Active Some(Pending) 1800000 3600000",
+    ),
+    (1_800_000, 0, Ask::StartRun(1), "Busy { by: PracticeRun }"),
+];
+
+#[test]
+fn a_run_waits_for_whatever_is_applied(rt: HostRuntime) -> Result<(), Fail> {
+    play(&rt, &NO_START_OF_A_RUN)
 }
 
 const A_RUN_AND_AN_AUTOSHIFT: [Step; 14] = [
@@ -279,16 +328,64 @@ fn an_autoshift_interrupts_a_run(rt: HostRuntime) -> Result<(), Fail> {
     play(&rt, &A_RUN_AND_AN_AUTOSHIFT)
 }
 
-/// A run that began with alarm 1, and goes on with it where the configuration is changed.
-const A_RUN_BEGINS: [Step; 5] = [
-    (0, 0, Ask::Register, "Resource { resource: ResourceId(1) }"),
-    (0, 0, Ask::Configure(&[], &[], &[]), "done"),
+/// An autoshift goes before a run once it is enabled for the resource.
+const AN_AUTOSHIFT_IS_ENABLED: [Step; 5] = [
+    (RUN_START, 0, Ask::Autoshift(2), "done"),
     (
         RUN_START,
         0,
-        Ask::StartRun(1),
-        "1 Active Some(Pending) 347400000 349200000",
+        Ask::Detail,
+        "Some((PracticeRun, \"use1-az1\"))",
     ),
+    (
+        RUN_START,
+        0,
+        Ask::Enable(true),
+        "Autoshift { resource: ResourceId(1), enabled: true }",
+    ),
+    (
+        RUN_START,
+        0,
+        Ask::List,
+        "1 Canceled Some(Interrupted) 347400000 349200000; ",
+    ),
+    (
+        RUN_START,
+        0,
+        Ask::Detail,
+        "Some((Autoshift, \"use1-az2\"))",
+    ),
+];
+
+#[test]
+fn an_autoshift_that_is_enabled_interrupts_a_run(rt: HostRuntime) -> Result<(), Fail> {
+    let mut state = State::fresh(rt.alloc())?;
+    check_all(&rt, &mut state, &A_RUN_STARTS)?;
+    check_all(&rt, &mut state, &AN_AUTOSHIFT_IS_ENABLED)
+}
+
+/// The outcome alarm turns red at a run's last millisecond, and one later.
+const AT_THE_END_OF_A_RUN: [(u64, &str); 2] = [
+    (RUN_LAST, "1 Canceled Some(Failed) 347400000 349200000; "),
+    (
+        RUN_LAST + 1,
+        "1 Expired Some(Succeeded) 347400000 349200000; ",
+    ),
+];
+
+#[test]
+fn an_alarm_at_the_last_millisecond(rt: HostRuntime) -> Result<(), Fail> {
+    for (at, expected) in AT_THE_END_OF_A_RUN {
+        let mut state = State::fresh(rt.alloc())?;
+        check_all(&rt, &mut state, &A_RUN_STARTS)?;
+        let alarm = (at, 0, Ask::Alarm(1, true), "done");
+        check_all(&rt, &mut state, &[alarm, (at, 0, Ask::List, expected)])?;
+    }
+    Ok(())
+}
+
+/// The configuration is changed while a run is pending, which goes on with the alarm with which it started.
+const OTHER_ALARMS: [Step; 5] = [
     (
         RUN_START,
         0,
@@ -296,28 +393,40 @@ const A_RUN_BEGINS: [Step; 5] = [
         "done",
     ),
     (RUN_LAST, 0, Ask::Alarm(2, true), "done"),
+    (
+        RUN_LAST,
+        0,
+        Ask::List,
+        "1 Active Some(Pending) 347400000 349200000; ",
+    ),
+    (RUN_LAST, 0, Ask::Alarm(1, true), "done"),
+    (
+        RUN_LAST,
+        0,
+        Ask::List,
+        "1 Canceled Some(Failed) 347400000 349200000; ",
+    ),
 ];
 
 #[test]
-fn an_alarm_fails_a_run_until_its_last_moment(rt: HostRuntime) -> Result<(), Fail> {
-    for (at, expected) in [
-        (RUN_LAST, "1 Canceled Some(Failed) 347400000 349200000; "),
-        (
-            RUN_LAST + 1,
-            "1 Expired Some(Succeeded) 347400000 349200000; ",
-        ),
-    ] {
-        let mut state = State::fresh(rt.alloc())?;
-        check_all(&rt, &mut state, &A_RUN_BEGINS)?;
-        let alarm = (at, 0, Ask::Alarm(1, true), "done");
-        check_all(&rt, &mut state, &[alarm, (at, 0, Ask::List, expected)])?;
-    }
-    Ok(())
+fn a_run_keeps_the_alarms_it_started_with(rt: HostRuntime) -> Result<(), Fail> {
+    let mut state = State::fresh(rt.alloc())?;
+    check_all(&rt, &mut state, &A_RUN_STARTS)?;
+    check_all(&rt, &mut state, &OTHER_ALARMS)
 }
 
 /// What is read once a run has begun, each answered at the list time.
-const READ_IN_A_RUN: [(Ask, &str); 7] = [
+const READ_IN_A_RUN: [(Ask, &str); 10] = [
     (Ask::List, "1 Active Some(Pending) 347400000 349200000; "),
+    (
+        Ask::ListOf(1, Status::Active),
+        "1 Active Some(Pending) 347400000 349200000; ",
+    ),
+    (Ask::ListOf(1, Status::Expired), ""),
+    (
+        Ask::ListOf(2, Status::Active),
+        "NotFound { id: Resource(ResourceId(2)) }",
+    ),
     (Ask::Detail, "Some((PracticeRun, \"use1-az1\"))"),
     (
         Ask::Resources,
@@ -332,7 +441,7 @@ const READ_IN_A_RUN: [(Ask, &str); 7] = [
 #[test]
 fn a_read_is_answered_at_the_list_time(rt: HostRuntime) -> Result<(), Fail> {
     let mut state = State::fresh(rt.alloc())?;
-    check_all(&rt, &mut state, &A_RUN_BEGINS)?;
+    check_all(&rt, &mut state, &A_RUN_STARTS)?;
     for (ask, expected) in READ_IN_A_RUN {
         assert_eq!(rt; read(rt.alloc(), &state, ask)?.as_str(), expected);
     }
@@ -410,6 +519,27 @@ fn the_oldest_shift_is_forgotten_for_one_more(rt: HostRuntime) -> Result<(), Fai
     check_all(&rt, &mut state, &ONE_SHIFT_MORE)
 }
 
+const ONE_MORE_BESIDE_A_RUN: [Step; 3] = [
+    (0, 0, Ask::Start(30), "1025 Active None 0 1800000"),
+    (0, 0, Ask::CancelRun(1), "NotFound { id: Shift(ShiftId(1)) }"),
+    (0, 0, Ask::Cancel(2), "NotActive { status: Canceled }"),
+];
+
+#[test]
+fn the_oldest_run_is_forgotten_for_one_more(rt: HostRuntime) -> Result<(), Fail> {
+    let alloc = rt.alloc();
+    let mut state = State::fresh(alloc)?;
+    give(alloc, &mut state, 0, 0, Ask::Register)?;
+    give(alloc, &mut state, 0, 0, Ask::Configure(&[], &[], &[]))?;
+    give(alloc, &mut state, 0, 0, Ask::StartRun(1))?;
+    give(alloc, &mut state, 0, 0, Ask::CancelRun(1))?;
+    for shift in 2u64..=1_024 {
+        give(alloc, &mut state, 0, 0, Ask::Start(30))?;
+        give(alloc, &mut state, 0, 0, Ask::Cancel(shift))?;
+    }
+    check_all(&rt, &mut state, &ONE_MORE_BESIDE_A_RUN)
+}
+
 const ONE_TOO_MANY: [Step; 8] = [
     (0, 0, Ask::Alarm(256, true), "Limit { count: 256 }"),
     (0, 0, Ask::Alarm(255, true), "done"),
@@ -434,16 +564,25 @@ fn at_most_256_alarms_are_red_and_16_zones_in_autoshift(rt: HostRuntime) -> Resu
     check_all(&rt, &mut state, &ONE_TOO_MANY)
 }
 
-/// Controls 1 to 3 in the first panel, of which 3 is the gate, and 4 to 6 in another. Later times and tokens are
-/// those at which two cells change places.
-const A_DAY_OF_CONTROLS: [Step; 14] = [
-    (1_000, 0, Ask::MakeControl("a", 1), FIRST_CONTROL),
-    (1_000, 0, Ask::MakeControl("b", 1), SECOND_CONTROL),
+/// Controls 1 to 3 in the first panel, of which 3 is the gate, and 4 to 6 in another. Then two cells change places.
+const REALISTIC_DAY: [Step; 14] = [
     (
         1_000,
         0,
-        Ask::MakeControl("c", 1),
-        "Control { panel: PanelId(1), name: Text { text: \"c\" }, control: ControlId(3) }",
+        Ask::MakeControl("cell-a", 1),
+        "Control { panel: PanelId(1), name: Text { text: \"cell-a\" }, control: ControlId(1) }",
+    ),
+    (
+        1_000,
+        0,
+        Ask::MakeControl("cell-b", 1),
+        "Control { panel: PanelId(1), name: Text { text: \"cell-b\" }, control: ControlId(2) }",
+    ),
+    (
+        1_000,
+        0,
+        Ask::MakeControl("gate", 1),
+        "Control { panel: PanelId(1), name: Text { text: \"gate\" }, control: ControlId(3) }",
     ),
     (
         1_000,
@@ -460,14 +599,14 @@ const A_DAY_OF_CONTROLS: [Step; 14] = [
     (
         1_000,
         0,
-        Ask::MakeControl("x", 2),
-        "NameTaken { id: Control(ControlId(4)) }",
+        Ask::MakeControl("y", 2),
+        "Control { panel: PanelId(2), name: Text { text: \"y\" }, control: ControlId(5) }",
     ),
     (
         1_000,
         0,
-        Ask::MakeControl("y", 2),
-        "Control { panel: PanelId(2), name: Text { text: \"y\" }, control: ControlId(5) }",
+        Ask::MakeControl("z", 2),
+        "Control { panel: PanelId(2), name: Text { text: \"z\" }, control: ControlId(6) }",
     ),
     (1_000, 0, Ask::Assert(1, false), FIRST_RULE),
     (
@@ -478,28 +617,39 @@ const A_DAY_OF_CONTROLS: [Step; 14] = [
     ),
     (1_000, 0, Ask::Batch(&[(3, true)], &[]), "done"),
     (2_000, 0, Ask::Batch(&[(1, true)], &[]), "done"),
-    (62_000, 3, Ask::Batch(&[(1, false), (2, true)], &[]), "done"),
+    (62_000, 0, Ask::Batch(&[(1, false), (2, true)], &[]), "done"),
     (
         121_999,
-        3,
+        0,
         Ask::Batch(&[(1, true), (2, false)], &[]),
         "[Forbidden { rule: RuleId(2), cause: Waiting { until: 122000 } }]",
     ),
     (
         122_000,
-        4,
+        0,
         Ask::Batch(&[(1, true), (2, false)], &[]),
         "done",
     ),
 ];
 
+#[test]
+fn realistic_day(rt: HostRuntime) -> Result<(), Fail> {
+    play(&rt, &REALISTIC_DAY)
+}
+
 /// What was made is looked at, changed and removed.
-const AN_EVENING_OF_CONTROLS: [Step; 13] = [
+const AN_EVENING_OF_CONTROLS: [Step; 15] = [
     (
         123_000,
         14,
         Ask::State(1),
-        "ControlState { control: ControlId(1), name: Text { text: \"a\" }, on: true }",
+        "ControlState { control: ControlId(1), name: Text { text: \"cell-a\" }, on: true }",
+    ),
+    (
+        123_000,
+        0,
+        Ask::MakeControl("x", 2),
+        "NameTaken { id: Control(ControlId(4)) }",
     ),
     (123_000, 0, Ask::Set(3, false), "done"),
     (123_000, 0, Ask::ChangeRule(true, 2, "guard", 1_000), "done"),
@@ -531,12 +681,13 @@ const AN_EVENING_OF_CONTROLS: [Step; 13] = [
         "InUse { id: Control(ControlId(5)) }",
     ),
     (123_000, 0, Ask::RemoveControl(5), "done"),
+    (123_000, 0, Ask::RemoveControl(6), "done"),
     (123_000, 0, Ask::RemovePanel(2), "done"),
     (
         123_000,
         0,
         Ask::Controls,
-        "Controls { items: List { items: [ControlItem { panel: PanelId(1), control: ControlId(1), name: Text { text: \"a\" }, on: true }, ControlItem { panel: PanelId(1), control: ControlId(2), name: Text { text: \"b\" }, on: false }] } }",
+        "Controls { items: List { items: [ControlItem { panel: PanelId(1), control: ControlId(1), name: Text { text: \"cell-a\" }, on: true }, ControlItem { panel: PanelId(1), control: ControlId(2), name: Text { text: \"cell-b\" }, on: false }] } }",
     ),
 ];
 
@@ -610,7 +761,7 @@ const A_NIGHT_OF_SHIFTS: [Step; 18] = [
 #[test]
 fn a_day_of_every_operation(rt: HostRuntime) -> Result<(), Fail> {
     let mut state = State::fresh(rt.alloc())?;
-    check_all(&rt, &mut state, &A_DAY_OF_CONTROLS)?;
+    check_all(&rt, &mut state, &REALISTIC_DAY)?;
     check_all(&rt, &mut state, &AN_EVENING_OF_CONTROLS)?;
     check_all(&rt, &mut state, &A_NIGHT_OF_SHIFTS)
 }
