@@ -1,6 +1,5 @@
 -- The members of operations on panels, controls and their states.
-use Rattle.std.specs.Prelude.{◌==◌, Bool, List, [], ◌∷◌, codes, Result, Ok, Err}
-use Rattle.serde_json.specs.Data.{Data}
+use Rattle.std.specs.Prelude.{◌==◌, Bool, List, [], ◌∷◌, codes, Ok}
 use Rattle.arc_ids.specs.declared.named_id.RuleId.{RuleId}
 use Rattle.arc_data.specs.declared.batch.Batch.{Batch}
 use Rattle.arc_data.specs.declared.batch.Entry.{Entry}

@@ -1,13 +1,11 @@
 -- The members of operations on resources, shifts, practice runs, autoshifts and alarms.
-use Rattle.std.specs.Prelude.{ℕ, Bool, List, [], codes, Option, Result, Ok, Err}
+use Rattle.std.specs.Prelude.{ℕ, List, [], codes, Ok}
 use Rattle.std.specs.Str.{bytes_eq}
-use Rattle.serde_json.specs.Data.{Data}
 use Rattle.arc_window.specs.declared.weekly.Window.{Window}
 use Rattle.arc_data.specs.declared.op.Op.{Op}
 use Rattle.arc_data.specs.declared.op.Op.TheVariants.{RegisterManagedResource, GetManagedResource, ListManagedResources, StartZonalShift, UpdateZonalShift, CancelZonalShift, ListZonalShifts, CreatePracticeRunConfiguration, UpdatePracticeRunConfiguration, DeletePracticeRunConfiguration, StartPracticeRun, CancelPracticeRun, UpdateZonalAutoshiftConfiguration, StartAutoshift, EndAutoshift, SetAlarmState}
 use Rattle.arc_data.specs.declared.practice.PracticeConfig.{PracticeConfig}
 use Rattle.arc_data.specs.declared.practice.PracticeChange.{PracticeChange}
-use Rattle.arc_members.specs.declared.code.Code.{Code}
 use Rattle.arc_members.specs.Lists.{list_in, set_in}
 use Rattle.arc_members.specs.Members.{defaulted, optional, required}
 use Rattle.arc_members.specs.Reading.{Reading, ◌>>=◌, object_in}

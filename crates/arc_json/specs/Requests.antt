@@ -1,5 +1,5 @@
 -- What a request asks for: the operation's name and a body of JSON.
-use Rattle.std.specs.Prelude.{ℕ, ◌==◌, List, length, Option, is_some, Result, Ok, Err, if◌then◌else◌}
+use Rattle.std.specs.Prelude.{ℕ, ◌==◌, List, length, is_some, Result, Ok, Err, if◌then◌else◌}
 use Rattle.std.specs.Option.{ok_or}
 use Rattle.std.specs.Str.{is_utf8}
 use Rattle.serde_json.specs.Data.{Data, object, no_members}
