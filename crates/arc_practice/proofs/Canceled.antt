@@ -1,5 +1,5 @@
 -- Why a run isn't cancelled.
-use Rattle.std.proofs.Common.{◌≡◌, ◌≢◌, ◌==◌, ℕ, Bool, true, false, cond, Some, Ok, Err, refl, ap, ◌∙◌}
+use Rattle.std.proofs.Common.{◌≡◌, ◌≢◌, ◌==◌, ℕ, Bool, false, cond, Some, Ok, Err, refl, ap, ◌∙◌}
 use Rattle.arc_ids.specs.declared.named_id.ShiftId.{ShiftId}
 use Rattle.arc_data.specs.declared.practice.Ending.TheVariants.{Interrupt}
 use Rattle.arc_data.specs.declared.practice.Run.{Run}

@@ -1,9 +1,9 @@
 -- What holds of practice runs, configurations and red alarms after each call.
-use Rattle.std.proofs.Common.{◌≡◌, ◌≢◌, ℕ, ◌+◌, ◌<◌, ◌≤◌, ◌==◌, ◌&&◌, Bool, true, false, cond, List, [], ◌∷◌, ◌++◌, length, get_or, set, map, filter, not, find, position, Option, Some, None, is_some, All, AllPairs, Ok, Err, refl, sym, ap, subst, ◌∙◌, arith, eqb, ltb, leb, zero, suc, inl, inr}
-use Rattle.std.proofs.lemmas.Bool.{cases_Bool, cases_eq, eq-eqb, eqb-true}
+use Rattle.std.proofs.Common.{◌≡◌, ◌≢◌, ℕ, ◌+◌, ◌<◌, ◌≤◌, ◌==◌, ◌&&◌, Bool, true, false, cond, List, [], ◌∷◌, ◌++◌, length, get_or, set, map, filter, find, Option, Some, None, All, refl, sym, ap, subst, ◌∙◌, arith, ltb, leb, inl, inr}
+use Rattle.std.proofs.lemmas.Bool.{cases_eq, eq-eqb}
 use Rattle.std.proofs.lemmas.Bool.Decides.{nat_tests}
 use Rattle.std.proofs.lemmas.List.{get_or-map, get_or_default, get_or-set_other, length-map, length-set}
-use Rattle.std.proofs.lemmas.List.Quantifiers.{all_pairs_push, position-Some}
+use Rattle.std.proofs.lemmas.List.Quantifiers.{all_pairs_push}
 use Rattle.std.proofs.lemmas.List.Kept.{AllPairs-filter}
 use Rattle.std.proofs.lemmas.Grind.{get_or-set_at}
 use Rattle.arc_ids.specs.declared.named_id.ResourceId.{ResourceId}
@@ -13,7 +13,7 @@ use Rattle.arc_data.specs.declared.practice.Run.{Run}
 use Rattle.arc_data.specs.declared.shift.Outcome.TheVariants.{Pending, Succeeded}
 use Rattle.arc_plain.specs.Practice.{PlainPractices, ended_by, ended_where, is_pending, most_red, outcome_at, outcome_by, pending_of, run_ms, unended_at}
 use Rattle.arc_plain.proofs.Unfound.{unfound}
-use Rattle.arc_practice.specs.Kept.{AreAlone, AreApart, AreDistinct, AreInOrder, AreKept, AreKeptRuns, HaveStarted}
+use Rattle.arc_practice.specs.Kept.{AreAlone, AreDistinct, AreKept, AreKeptRuns, HaveStarted}
 
 -- nothing
 pub kept_at_first : AreKept (record { configs = []; runs = []; red = [] })

@@ -20,4 +20,4 @@ mod runs;
 
 pub use arc_data::{BlockCause, Ending, Outcome, PracticeChange, PracticeConfig, Run};
 pub use practices::Practices;
-pub use progress::{is_pending, outcome, status_of};
+pub use progress::{RUN_MS, is_pending, outcome, status_of};

@@ -4,8 +4,8 @@ ghost use Rattle.arc_plain.specs.Practice.{ended_by, is_pending, outcome_at, run
 
 use arc_data::{Ending, Outcome, Run, Status};
 
-/// A run lasts 30 minutes, in milliseconds.
-const RUN_MS: u64 = 1_800_000;
+/// How long a run lasts, in milliseconds: 30 minutes.
+pub const RUN_MS: u64 = 1_800_000;
 
 /// What became of a practice run: its first ending event decides, where that came before its 30 minutes were over. Without
 /// one it succeeds when they are over.

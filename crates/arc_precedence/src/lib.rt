@@ -14,6 +14,6 @@ mod autoshift;
 mod found;
 
 pub use applied::{Applied, ShiftsView, applied_shift};
-pub use arc_data::Kind;
+pub use arc_data::{Kind, ZoneName};
 pub use autoshift::autoshift_at;
 pub use found::{active_of, pending_of};

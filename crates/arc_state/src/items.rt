@@ -5,12 +5,9 @@ ghost use Rattle.arc_plain.specs.ZonalShifts.{shift_item};
 
 use arc_bytes::Memory;
 use arc_data::{MAX_MS, Run, Shift, ShiftItem};
-use arc_practice::{outcome, status_of};
+use arc_practice::{RUN_MS, outcome, status_of};
 use arc_shift::status;
 use std::alloc::Global;
-
-/// A run lasts 30 minutes, in milliseconds.
-const RUN_MS: u64 = 1_800_000;
 
 /// A shift as replies show it.
 pub(crate) fn shift_item(alloc: Global, shift: &Shift, now: u64) -> Result<ShiftItem, Memory>

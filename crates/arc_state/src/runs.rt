@@ -19,12 +19,9 @@ use arc_data::{
     Body, MAX_MS, Named, Outcome, PartEnd, Refusal, Reply, ResourceId, ShiftId, ShiftItem, Status,
     Text, ZoneName,
 };
-use arc_practice::Practices;
+use arc_practice::{Practices, RUN_MS};
 use arc_shift::Shifts;
 use std::alloc::Global;
-
-/// A run lasts 30 minutes, in milliseconds.
-const RUN_MS: u64 = 1_800_000;
 
 /// Starts a practice run of a configured resource away from one of its zones, where no other shift is applied to it and
 /// nothing blocks the run.

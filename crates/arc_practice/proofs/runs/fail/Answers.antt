@@ -1,4 +1,4 @@
-use Rattle.std.proofs.Common.{◌<◌, ◌==◌, length, arith}
+use Rattle.std.proofs.Common.{◌<◌, length, arith}
 use Rattle.std.proofs.lemmas.List.Edits.{map_over_more}
 use Rattle.arc_data.specs.declared.practice.Ending.TheVariants.{Alarm}
 use Rattle.arc_plain.specs.Practice.{ended_where, fails_by}

@@ -1,4 +1,4 @@
-use Rattle.std.proofs.Common.{◌≡◌, ◌==◌, ◌++◌, map, take, drop}
+use Rattle.std.proofs.Common.{◌≡◌, ◌++◌, map, take, drop}
 use Rattle.arc_data.specs.declared.practice.Ending.TheVariants.{Alarm}
 use Rattle.arc_plain.specs.Practice.{ended_where, fails_by}
 use Rattle.arc_practice.proofs.runs.fail.Given as goal

@@ -1,4 +1,4 @@
-use Rattle.std.proofs.Common.{◌≡◌, ◌==◌, ◌++◌, ◌∷◌, [], List, Option, None, Some, false, find, is_some, sym, refl, subst, ◌∙◌}
+use Rattle.std.proofs.Common.{◌≡◌, ◌==◌, Option, None, Some, false, find, is_some, sym, refl, subst, ◌∙◌}
 use Rattle.std.specs.Option.{option_map}
 use Rattle.arc_data.specs.declared.practice.Configured.{Configured}
 use Rattle.arc_practice.specs.Kept.{AreDistinct}
