@@ -2,16 +2,19 @@
 use Rattle.std.proofs.Common.{◌≡◌, ℕ, ◌<◌, sym, ap, ◌∙◌, subst, List, length, inl, inr, ⊎_elim}
 use Rattle.arc_bytes.specs.Counts.{HasRisen}
 use Rattle.arc_data.specs.declared.record.Record.{Record}
-use Rattle.arc_journal.specs.Image.{records_of}
+use Rattle.arc_journal.specs.Image.{IsJournalOf, records_of}
 use Rattle.arc_journal.specs.Layout.{entry_limit}
 use Rattle.arc_journal.proofs.Found.{journal_records}
 use Rattle.arc_node.specs.Comparing.{IsKeptOrWith}
 use Rattle.arc_node.specs.Node.{IsInOrder, IsPossible, IsSameNode, KeepsList, MayRead, disk_in, doubt_of, kept, limit_of, number_of, slots_in}
-use Rattle.arc_node.specs.Starting.{IsFull, IsInDoubt, IsNoAccusation, Restarts, StartsBehind, StaysShut}
+use Rattle.arc_node.specs.Starting.{IsCreated, IsFull, IsInDoubt, IsNoAccusation, Restarts, StartsBehind, StaysShut}
 use Rattle.arc_node.specs.declared.node.Node.{Node}
 use Rattle.arc_node.specs.declared.restart.Restart.{Restart}
 use Rattle.arc_node.specs.declared.restart.Restart.TheVariants as ends
+use Rattle.arc_script.specs.declared.step.Step.{Step}
+use Rattle.arc_drill.specs.Drilled.{IsJournalFor}
 use Rattle.arc_drill.specs.Steps.{StartsAgain, start_of}
+use Rattle.arc_drill.specs.Telling.{slots_of as slots_said}
 use Rattle.arc_drill.specs.declared.starting.Start.{Start}
 use Rattle.arc_drill.specs.declared.starting.Start.TheVariants as starts
 
@@ -75,6 +78,10 @@ module _ {D : Type 0} (old mid new : Node D) (keeps : KeepsList old mid) (same :
   started_since tells faults (starts.Damaged place) count did = (shut_since did.0, did.1)
   started_since tells faults starts.Memory count did = shut_since did
 
+-- the same node through two calls
+pub same_then : {D : Type 0} (old mid new : Node D) → IsSameNode old mid → IsSameNode mid new → IsSameNode old new
+same_then old mid new first second = record { number = second.number ∙ first.number; slots = second.slots ∙ first.slots }
+
 -- ---- what the disk reads as, and what a crash leaves of it
 
 module _ {D : Type 0} (tells : Type 0) (content : D → List ℕ) (may_leave : D → List ℕ → Type 0) (node : Node D) where
@@ -83,6 +90,16 @@ module _ {D : Type 0} (tells : Type 0) (content : D → List ℕ) (may_leave : D
   leaves_possible order told image left =
       let may = order.images told image left in
       subst (IsPossible node) (sym (journal_records (number_of node) (slots_in node) may.list image may.journal)) may.possible
+
+  -- and it is the journal of the steps for which the node was created
+  pub leaves_journal : (begun : Node D) (steps : List Step) → IsCreated begun 0 (slots_said steps) → IsSameNode begun node
+      → IsInOrder tells content may_leave node → tells → (image : List ℕ) → may_leave (disk_in node) image → IsJournalFor steps image
+  leaves_journal begun steps created same order told image left =
+      let may = order.images told image left in
+      let its = subst (λ list. IsJournalOf (number_of node) (slots_in node) list image)
+      (sym (journal_records (number_of node) (slots_in node) may.list image may.journal)) may.journal in
+      subst (λ n. IsJournalOf 0 n (records_of image) image) (same.slots ∙ created.slots_are)
+      (subst (λ n. IsJournalOf n (slots_in node) (records_of image) image) (same.number ∙ created.number_is) its)
 
 module _ {D : Type 0} (tells : Type 0) (content : D → List ℕ) (may_leave : D → List ℕ → Type 0) (reads_as_left : (d : D) → tells → may_leave d (content d)) (node : Node D) where
   -- a journal of the node

@@ -1,11 +1,12 @@
 -- What a drill wrote, by how it ended.
-use Rattle.std.specs.Prelude.{ℕ, ◌≡◌, ◌≢◌, ◌<◌, ◌⊎◌, ◌++◌, List, [], ◌∷◌, AllPairs, length, map, slice_get, take, Some, Option, Result, Ok, Err}
+use Rattle.std.specs.Prelude.{ℕ, ◌≡◌, ◌≢◌, ◌<◌, ◌⊎◌, ◌++◌, ⊤, List, [], ◌∷◌, AllPairs, length, map, slice_get, take, Some, Option, Result, Ok, Err}
 use Rattle.std.specs.List.{concat}
 use Rattle.arc_bytes.specs.declared.five.Five.{Five}
 use Rattle.arc_bytes.specs.Sink.{Appends, AppendsPrefix}
 use Rattle.arc_data.specs.declared.command.Command.{Command}
 use Rattle.arc_data.specs.declared.record.Record.{Record}
 use Rattle.arc_data.specs.declared.reply.Reply.{Reply}
+use Rattle.arc_journal.specs.Image.{IsJournalOf, records_of}
 use Rattle.arc_script.specs.declared.step.Step.{Step}
 use Rattle.arc_script.specs.Grammar.{BadLine}
 use Rattle.arc_voting.specs.Lists.{applied}
@@ -16,7 +17,7 @@ use Rattle.arc_drill.specs.Line.Line.{Placed}
 use Rattle.arc_drill.specs.Lines.{bad_line}
 use Rattle.arc_drill.specs.Shown.{entries_shown}
 use Rattle.arc_drill.specs.Status.{exit_status}
-use Rattle.arc_drill.specs.Telling.{Tells}
+use Rattle.arc_drill.specs.Telling.{Tells, slots_of}
 use Rattle.arc_drill.specs.Obeying.{ObeysRules}
 
 -- the text of a report
@@ -66,6 +67,28 @@ Wrote failed journal old new DiskFailed (Err bad) = ⊥
 abbrev pub Drilled : Type 0 → List Record → Option (List ℕ) → Option (List ℕ) → ℕ → Result (List Step) BadLine → Type 0
 Drilled failed journal old new status read =
     (ended : Status) × (status ≡ exit_status ended) × Wrote failed journal old new ended read
+
+-- An image of the journal in which these steps keep their list: that of node 0, for a list of the length that they say,
+-- with the entries that the image says. Such a journal is read again, and never refused.
+abbrev pub IsJournalFor : List Step → List ℕ → Type 0
+IsJournalFor steps image = IsJournalOf 0 (slots_of steps) (records_of image) image
+
+-- What stays of a drill in an image that a crash would leave, by the end, of a text that spells these steps. Where a report
+-- went out, whole or but for the end of its last line, the image is that journal, and the report is told of it. Where there
+-- was no memory, so it is, or nothing went out.
+abbrev pub LastsBy : Type 0 → List ℕ → Option (List ℕ) → Option (List ℕ) → Status → Result (List Step) BadLine → Type 0
+LastsBy failed image old new Done (Ok steps) =
+    IsJournalFor steps image × Wrote failed (records_of image) old new Done (Ok steps)
+LastsBy failed image old new SinkFailed (Ok steps) =
+    IsJournalFor steps image × Wrote failed (records_of image) old new SinkFailed (Ok steps)
+LastsBy failed image old new Memory (Ok steps) =
+    Appends old new [] ⊎ (IsJournalFor steps image × Wrote failed (records_of image) old new Memory (Ok steps))
+LastsBy failed image old new ended read = ⊤
+
+-- The same by the number of the status.
+abbrev pub Lasts : Type 0 → List ℕ → Option (List ℕ) → Option (List ℕ) → ℕ → Result (List Step) BadLine → Type 0
+Lasts failed image old new status read =
+    (ended : Status) × (status ≡ exit_status ended) × LastsBy failed image old new ended read
 
 -- All five disks are empty.
 pub record AreEmpty {D : Type 0} (content : D → List ℕ) (disks : Five D) : Type 0 where

@@ -1,6 +1,6 @@
 -- What one step makes of the node and of the plain state: words for the functions inside. The contract of the drill rests
 -- on none of these, but on what a report tells, line by line.
-use Rattle.std.specs.Prelude.{ℕ, ◌≡◌, ◌<◌, ◌≤◌, ◌⊎◌, ⊤, false, true, ◌++◌, List, [], ◌∷◌, length, slice_get, None, Some, Option}
+use Rattle.std.specs.Prelude.{ℕ, ◌≡◌, ◌<◌, ◌≤◌, ◌⊎◌, false, true, ◌++◌, List, [], ◌∷◌, length, slice_get, None, Some, Option, codes}
 use Rattle.arc_bytes.specs.Counts.{HasRisen}
 use Rattle.arc_data.specs.Valid.{IsValid}
 use Rattle.arc_data.specs.declared.command.Command.{Command}
@@ -33,7 +33,7 @@ use Rattle.arc_drill.specs.declared.learning.Learned.TheVariants.{Done, Fallen, 
 use Rattle.arc_drill.specs.declared.starting.Start.{Start}
 use Rattle.arc_drill.specs.declared.starting.Start.TheVariants as starts
 use Rattle.arc_drill.specs.Each.{Each}
-use Rattle.arc_drill.specs.Line.{Line, text}
+use Rattle.arc_drill.specs.Line.{Line, numbered, text}
 use Rattle.arc_drill.specs.Line.Line.{Placed, Up, JournalFull, DiskFailed}
 use Rattle.arc_drill.specs.SoFar.{SoFar}
 use Rattle.arc_drill.specs.Telling.{Tells, slots_of}
@@ -158,12 +158,12 @@ StartsAgain tells faults old new (starts.Rotten place) = StaysShut old new × (t
 StartsAgain tells faults old new (starts.Damaged place) = StaysShut old new × (tells → ⊥)
 StartsAgain tells faults old new starts.Memory = StaysShut old new
 
--- The line of a start. Those that accuse the disk are spelled in no report.
+-- The line of a start. Over a disk that tells its content none accuses the disk.
 abbrev pub SpellsStart : Start → List ℕ → Type 0
 SpellsStart (starts.Up inc) line = line ≡ text (Up inc)
 SpellsStart (starts.Full count) line = line ≡ text (JournalFull count)
 SpellsStart starts.Disk line = line ≡ text DiskFailed
-SpellsStart (starts.NotOurs place) line = ⊤
-SpellsStart (starts.Rotten place) line = ⊤
-SpellsStart (starts.Damaged place) line = ⊤
+SpellsStart (starts.NotOurs place) line = line ≡ numbered (codes "restart 0 notours ") place
+SpellsStart (starts.Rotten place) line = line ≡ numbered (codes "restart 0 rotten ") place
+SpellsStart (starts.Damaged place) line = line ≡ numbered (codes "restart 0 damaged ") place
 SpellsStart starts.Memory line = ⊥

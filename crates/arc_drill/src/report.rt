@@ -3,12 +3,12 @@ ghost use Rattle.std.specs.Prelude.{◌≡◌, ◌≢◌, ◌≤◌, ◌<◌, []
 ghost use Rattle.std.specs.List.{All};
 ghost use Rattle.arc_bytes.specs.Counts.{HasRisen};
 ghost use Rattle.arc_data.specs.declared.record.Record.{Record};
-ghost use Rattle.arc_drill.specs.Drilled.{Wrote};
+ghost use Rattle.arc_drill.specs.Drilled.{LastsBy, Wrote};
 ghost use Rattle.arc_drill.specs.Since.{Since};
 ghost use Rattle.arc_drill.specs.Telling.{slots_of};
 ghost use Rattle.arc_journal.specs.Image.{records_of};
 ghost use Rattle.arc_journal.specs.Runs.{OpensInRun};
-ghost use Rattle.arc_node.specs.Node.{IsInOrder, IsPossible, disk_in};
+ghost use Rattle.arc_node.specs.Node.{IsInOrder, IsPossible, IsSameNode, disk_in};
 ghost use Rattle.arc_node.specs.Starting.{IsCreated};
 ghost use Rattle.arc_plain.specs.State.{fresh as fresh_state};
 ghost use Rattle.arc_script.specs.Steps.{IsValidStep};
@@ -37,9 +37,9 @@ pub(crate) fn report<K: Sink, D: Rig>(
     requires empty { D.tells → D.content disk ≡ [] }
     ensures wrote { D.tells → Wrote (HasRisen (D.faults disk) (D.faults result.1)) (records_of (D.content result.1))
         (K.taken out.old) (K.taken out.new) result.0 (Ok steps.now) }
-    ensures lasting { D.tells → result.0 ≡ Status.Done → (image : List ℕ) → D.may_leave result.1 image →
-        Wrote (HasRisen (D.faults disk) (D.faults result.1)) (records_of image)
-        (K.taken out.old) (K.taken out.new) Status.Done (Ok steps.now) }
+    ensures lasting { D.tells → (image : List ℕ) → D.may_leave result.1 image →
+        LastsBy (HasRisen (D.faults disk) (D.faults result.1)) image
+        (K.taken out.old) (K.taken out.new) result.0 (Ok steps.now) }
     ensures read { result.0 ≢ Status.SourceFailed }
     ensures script { result.0 ≢ Status.BadScript }
     ensures sink_failed { result.0 ≡ Status.SinkFailed → HasRisen (K.faults out.old) (K.faults out.new) }
@@ -83,6 +83,7 @@ fn do_steps<K: Sink, D: Rig>(
     ensures script { result ≢ Status.BadScript }
     ensures created { result ≢ Status.DiskFailed }
     ensures since { Since D.faults D.stops_in D.is_tame (disk_in node.old) (disk_in node.new) }
+    ensures same { IsSameNode node.old node.new }
 {
     for step in steps {
         let Ok(line) = do_step(alloc, node, state, step) else {

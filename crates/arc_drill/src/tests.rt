@@ -6,7 +6,7 @@ mod worked;
 
 use super::*;
 use arc_bytes::{Five, MemorySink, MemorySource};
-use arc_disk::MemoryDisk;
+use arc_disk::{MemoryDisk, Rig};
 use std::alloc::{AllocError, Global};
 use std::process::Abort;
 use std::test::Fail;
@@ -36,6 +36,30 @@ fn disks(alloc: Global, failing: Vec<u64>) -> Five<MemoryDisk>
     }
 }
 
+/// Five empty disks, of which the first stops in the device call with this number.
+fn stopping_disks(alloc: Global, calls: u32) -> Five<MemoryDisk>
+    ensures { AreEmpty content_of result }
+{
+    let mut disks = disks(alloc, Vec::new(alloc));
+    disks.d0.arm(calls, 0);
+    disks
+}
+
+/// Drills a script over empty disks: the status, and what was written.
+fn report_over(
+    alloc: Global,
+    script: Vec<u8>,
+    failing: Failing<'_>,
+    disks: Five<MemoryDisk>,
+) -> Result<(u8, Vec<u8>), Fail>
+    requires { AreEmpty content_of disks }
+{
+    let mut src = MemorySource::new(script, failing.reads.to_vec(alloc)?);
+    let mut out = MemorySink::new(alloc, failing.writes.to_vec(alloc)?);
+    let (status, _) = drill(alloc, &mut src, &mut out, disks);
+    Ok((status, out.bytes().to_vec(alloc)?))
+}
+
 /// Drills a script over a first disk of which these device calls fail: the status, and what was written.
 fn report_of(
     alloc: Global,
@@ -43,11 +67,8 @@ fn report_of(
     failing: Failing<'_>,
     calls: &[u64],
 ) -> Result<(u8, Vec<u8>), Fail> {
-    let mut src = MemorySource::new(script, failing.reads.to_vec(alloc)?);
-    let mut out = MemorySink::new(alloc, failing.writes.to_vec(alloc)?);
     let disks = disks(alloc, calls.to_vec(alloc)?);
-    let (status, _) = drill(alloc, &mut src, &mut out, disks);
-    Ok((status, out.bytes().to_vec(alloc)?))
+    report_over(alloc, script, failing, disks)
 }
 
 /// Drills a script, and compares the status and what was written.
@@ -251,6 +272,18 @@ fn a_disk_that_fails_takes_its_node_down(rt: HostRuntime) -> Result<(), Fail> {
         assert_eq!(rt; got_status, status, "{script}");
         assert_eq!(rt; got_report.as_slice(), report.as_bytes(), "{script}");
     }
+    Ok(())
+}
+
+/// A disk that stopped fails until it crashes, so that the node comes up again only where its disk crashes first.
+#[test]
+fn the_disk_of_a_node_that_is_down_crashes_before_a_restart(rt: HostRuntime) -> Result<(), Fail> {
+    let alloc = rt.alloc();
+    let script = b"get 0 0 0 1\nrestart 0\n".as_slice().to_vec(alloc)?;
+    let disks = stopping_disks(alloc, 6);
+    let (status, report) = report_over(alloc, script, NONE, disks)?;
+    assert_eq!(rt; status, 0);
+    assert_eq!(rt; report.as_slice(), b"down 0\nrestart 0 up 2\n".as_slice());
     Ok(())
 }
 

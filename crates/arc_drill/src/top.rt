@@ -1,8 +1,8 @@
 //! The drill itself.
-ghost use Rattle.std.specs.Prelude.{◌≡◌, ◌≢◌, List, ℕ, [], Some, IfSome, IfErr, Err};
+ghost use Rattle.std.specs.Prelude.{◌≡◌, ◌≢◌, List, ℕ, [], Some, IfSome, IfErr, Err, MatchResult};
 ghost use Rattle.arc_bytes.specs.Counts.{HasRisen};
 ghost use Rattle.arc_bytes.specs.Source.{AtEnd};
-ghost use Rattle.arc_drill.specs.Drilled.{AreEmpty, Drilled, KeepsOthers, Wrote};
+ghost use Rattle.arc_drill.specs.Drilled.{AreEmpty, Drilled, KeepsOthers, Lasts, LastsBy, Wrote};
 ghost use Rattle.arc_drill.specs.Since.{Since};
 ghost use Rattle.arc_drill.specs.Status.{IsStatus};
 ghost use Rattle.arc_journal.specs.Image.{records_of};
@@ -32,11 +32,14 @@ pub fn drill<S: Source, K: Sink, D: Rig>(
     ensures drilled { D.tells → IfSome (S.left src.old) (λ text.
         Drilled (HasRisen (D.faults disks.d0) (D.faults result.1.d0)) (records_of (D.content result.1.d0))
         (K.taken out.old) (K.taken out.new) result.0 (steps_of text)) }
-    // After 0 it lasts: the same holds of whatever a crash would leave on that disk.
-    ensures lasting { D.tells → result.0 ≡ 0 → (image : List ℕ) → D.may_leave result.1.d0 image →
+    // It lasts: each image that a crash would leave there, the content among them, is a journal of which this holds too.
+    ensures lasting { D.tells → (image : List ℕ) → D.may_leave result.1.d0 image →
         IfSome (S.left src.old) (λ text.
-        Drilled (HasRisen (D.faults disks.d0) (D.faults result.1.d0)) (records_of image)
+        Lasts (HasRisen (D.faults disks.d0) (D.faults result.1.d0)) image
         (K.taken out.old) (K.taken out.new) result.0 (steps_of text)) }
+    // Over any disk: a script never ends with 6, and of any other text the end is told, and what went out.
+    ensures by_text { IfSome (S.left src.old) (λ text. MatchResult (steps_of text)
+        (λ steps. result.0 ≢ 6) (λ bad. Drilled ⊥ [] (K.taken out.old) (K.taken out.new) result.0 (Err bad))) }
     ensures status { IsStatus result.0 }
     ensures read_whole { result.0 ≡ 0 → AtEnd (S.left src.new) }
     ensures source_failed { result.0 ≡ 3 → HasRisen (S.faults src.old) (S.faults src.new) }
@@ -69,9 +72,12 @@ fn read_and_report<S: Source, K: Sink, D: Rig>(
     ensures wrote { D.tells → IfSome (S.left src.old) (λ text.
         Wrote (HasRisen (D.faults disk) (D.faults result.1)) (records_of (D.content result.1))
         (K.taken out.old) (K.taken out.new) result.0 (steps_of text)) }
-    ensures lasting { D.tells → result.0 ≡ Status.Done → (image : List ℕ) → D.may_leave result.1 image →
-        IfSome (S.left src.old) (λ text. Wrote (HasRisen (D.faults disk) (D.faults result.1)) (records_of image)
-        (K.taken out.old) (K.taken out.new) Status.Done (steps_of text)) }
+    ensures lasting { D.tells → (image : List ℕ) → D.may_leave result.1 image → IfSome (S.left src.old) (λ text.
+        LastsBy (HasRisen (D.faults disk) (D.faults result.1)) image
+        (K.taken out.old) (K.taken out.new) result.0 (steps_of text)) }
+    ensures by_text { IfSome (S.left src.old) (λ text. MatchResult (steps_of text)
+        (λ steps. result.0 ≢ Status.BadScript)
+        (λ bad. Wrote ⊥ [] (K.taken out.old) (K.taken out.new) result.0 (Err bad))) }
     ensures read_whole { result.0 ≡ Status.Done → AtEnd (S.left src.new) }
     ensures source_failed { result.0 ≡ Status.SourceFailed →
         HasRisen (S.faults src.old) (S.faults src.new) × (out.new ≡ out.old) × (result.1 ≡ disk) }
@@ -96,9 +102,11 @@ fn drill_text<K: Sink, D: Rig>(alloc: Global, out: &mut K, text: &[u8], disk: D)
     requires empty { D.tells → D.content disk ≡ [] }
     ensures wrote { D.tells → Wrote (HasRisen (D.faults disk) (D.faults result.1)) (records_of (D.content result.1))
         (K.taken out.old) (K.taken out.new) result.0 (steps_of text.now) }
-    ensures lasting { D.tells → result.0 ≡ Status.Done → (image : List ℕ) → D.may_leave result.1 image →
-        Wrote (HasRisen (D.faults disk) (D.faults result.1)) (records_of image)
-        (K.taken out.old) (K.taken out.new) Status.Done (steps_of text.now) }
+    ensures lasting { D.tells → (image : List ℕ) → D.may_leave result.1 image →
+        LastsBy (HasRisen (D.faults disk) (D.faults result.1)) image
+        (K.taken out.old) (K.taken out.new) result.0 (steps_of text.now) }
+    ensures by_text { MatchResult (steps_of text.now) (λ steps. result.0 ≢ Status.BadScript)
+        (λ bad. Wrote ⊥ [] (K.taken out.old) (K.taken out.new) result.0 (Err bad)) }
     ensures read { result.0 ≢ Status.SourceFailed }
     ensures sink_failed { result.0 ≡ Status.SinkFailed → HasRisen (K.faults out.old) (K.faults out.new) }
     ensures disk_failed { result.0 ≡ Status.DiskFailed → HasRisen (D.faults disk) (D.faults result.1) }

@@ -1,7 +1,7 @@
 //! The task that the program's words name.
-ghost use Rattle.std.specs.Prelude.{◌≡◌, ◌≢◌, ◌↔◌, ℕ, List, Option, Some, None, false, IfErr, IfSome, IsTrue};
+ghost use Rattle.std.specs.Prelude.{◌≡◌, ◌≢◌, ◌↔◌, ℕ, List, [], Option, Some, None, false, Err, IfErr, IfSome, IsTrue, MatchResult};
 ghost use Rattle.arc_bytes.specs.Counts.{HasRisen};
-ghost use Rattle.arc_drill.specs.Drilled.{AreEmpty, Drilled, KeepsOthers};
+ghost use Rattle.arc_drill.specs.Drilled.{AreEmpty, Drilled, KeepsOthers, Lasts};
 ghost use Rattle.arc_drill.specs.Since.{Since};
 ghost use Rattle.arc_drill.specs.Status.{IsStatus};
 ghost use Rattle.arc_journal.specs.Image.{records_of};
@@ -34,11 +34,14 @@ pub fn run<E: Outside, K: Sink, N: Sink, D: Rig>(
     ensures drilled { IsDrill words.now → D.tells → IfSome (E.named outside.old None) (λ text.
         Drilled (HasRisen (D.faults disks.d0) (D.faults result.1.d0)) (records_of (D.content result.1.d0))
         (K.taken out.old) (K.taken out.new) result.0 (steps_of text)) }
-    // After 0 it lasts: the same holds of whatever a crash would leave on that disk.
-    ensures lasting { IsDrill words.now → D.tells → result.0 ≡ 0 → (image : List ℕ) → D.may_leave result.1.d0 image →
+    // It lasts: each image that a crash would leave there, the content among them, is a journal of which this holds too.
+    ensures lasting { IsDrill words.now → D.tells → (image : List ℕ) → D.may_leave result.1.d0 image →
         IfSome (E.named outside.old None) (λ text.
-        Drilled (HasRisen (D.faults disks.d0) (D.faults result.1.d0)) (records_of image)
+        Lasts (HasRisen (D.faults disks.d0) (D.faults result.1.d0)) image
         (K.taken out.old) (K.taken out.new) result.0 (steps_of text)) }
+    // Over any disk: a script never ends with 6, and of any other text the end is told, and what went out.
+    ensures by_text { IsDrill words.now → IfSome (E.named outside.old None) (λ text. MatchResult (steps_of text)
+        (λ steps. result.0 ≢ 6) (λ bad. Drilled ⊥ [] (K.taken out.old) (K.taken out.new) result.0 (Err bad))) }
     ensures status { IsDrill words.now → IsStatus result.0 }
     // 3 where the script can't be opened, and only where the outside failed.
     ensures unopened { IsDrill words.now → E.opens outside.old None ≡ Some false → result.0 ≡ 3 }

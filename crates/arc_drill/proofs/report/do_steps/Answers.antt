@@ -2,6 +2,7 @@ use Rattle.std.proofs.Common.{refl, arith}
 use Rattle.arc_node.specs.Node.{disk_in}
 use Rattle.arc_drill.proofs.Disks.{since_same, since_then}
 use Rattle.arc_drill.proofs.Reporting.{created_fit, reported_none, reported_more, wrote_all, wrote_front, wrote_some}
+use Rattle.arc_drill.proofs.Starts.{same_then}
 use Rattle.arc_drill.proofs.Writing.{appends_same, front_same}
 use Rattle.arc_drill.proofs.report.do_steps.Goals as goal
 
@@ -14,6 +15,7 @@ loop-step-init g c =
       since_same disk.moment disk.faults disk.stops_in disk.is_tame (disk_in node) (disk_in node) refl,
       reported_none disk.tells disk.faults c.args.steps.now node (g.K.Sink.taken c.args.out.now) c.requires.created,
       omega arith,
+      record { number = refl; slots = refl },
     )
 
 pub loop-step-preserved : goal.loop-step-preserved
@@ -31,6 +33,7 @@ loop-step-preserved g c =
       reported_more disk.tells disk.faults begun c.args.steps.now c.loop-step.step-index c.loop-step.node c.do_step.new.node (taken c.args.out.now) (taken c.loop-step.out) (taken c.write_all.new.out)
           c.step-item.result _ invariant.3 (omega arith) c.step-item.is c.in-Ok.ensures.does written,
       omega arith,
+      same_then c.args.node.now c.loop-step.node c.do_step.new.node invariant.5 c.do_step.ensures.same,
     )
 
 pub returns-in_default-clause-wrote : goal.returns-in_default-clause-wrote
@@ -44,6 +47,14 @@ pub returns-in_default-clause-since : goal.returns-in_default-clause-since
 returns-in_default-clause-since g c =
     let disk = g.D.Disk in
     since_then disk.moment disk.faults disk.stops_in disk.is_tame (disk_in c.args.node.now) (disk_in c.loop-step.node) (disk_in c.do_step.new.node) c.loop-step.invariant.2 c.do_step.ensures.since
+
+pub returns-in_default-clause-same : goal.returns-in_default-clause-same
+returns-in_default-clause-same g c =
+    same_then c.args.node.now c.loop-step.node c.do_step.new.node c.loop-step.invariant.5 c.do_step.ensures.same
+
+pub returns-in-Err-clause-same : goal.returns-in-Err-clause-same
+returns-in-Err-clause-same g c =
+    same_then c.args.node.now c.loop-step.node c.do_step.new.node c.loop-step.invariant.5 c.do_step.ensures.same
 
 pub returns-in-Err-clause-wrote : goal.returns-in-Err-clause-wrote
 returns-in-Err-clause-wrote g c =
