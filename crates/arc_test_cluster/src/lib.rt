@@ -2,8 +2,9 @@
 //! parts do, call by call.
 //!
 //! They stand apart from those crates, so that each of those libraries is proved once, and not again with its tests. Each
-//! tested crate has a module here, and reaches it by its public functions alone. What is asked of a state, and how its
-//! replies are shown, is said in `asks`. It exports nothing, and no promise rests on it.
+//! tested crate has a module here, and reaches it by its public functions alone; `arc_state` has three: `state`, `runs` and
+//! `days`. What is asked of a state, and how its replies are shown, is said in `asks`. It exports nothing, and no promise
+//! rests on it.
 #![tactic(auto)]
 
 #[cfg(test)]
@@ -11,9 +12,13 @@ mod asks;
 #[cfg(test)]
 mod batch;
 #[cfg(test)]
+mod days;
+#[cfg(test)]
 mod practice;
 #[cfg(test)]
 mod precedence;
+#[cfg(test)]
+mod runs;
 #[cfg(test)]
 mod shift;
 #[cfg(test)]
