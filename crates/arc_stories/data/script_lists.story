@@ -98,6 +98,21 @@ slot 2 token 3 200 {}
 slot 3 token 4 200 {"SafetyRuleArn":"arn:arc:rule/0000000000000001"}
 slot 4 token 5 409 {"Reason":"Forbidden","Rules":[{"Cause":"AssertFalse","SafetyRuleArn":"arn:arc:rule/0000000000000001"}],"__type":"ConflictException"}
 
+== ATLEAST asks for no more controls than its number
+new 0 0 0 a
+new 0 0 0 b
+batch 0 0 0 1=On,2=On -
+assert 0 0 0 r ATLEAST:1 0 1,2
+set 0 0 0 1 Off
+set 0 0 0 2 Off
+----
+slot 0 token 1 200 {"RoutingControl":{"ControlPanelArn":"arn:arc:panel/0000000000000001","Name":"a","RoutingControlArn":"arn:arc:control/0000000000000001"}}
+slot 1 token 2 200 {"RoutingControl":{"ControlPanelArn":"arn:arc:panel/0000000000000001","Name":"b","RoutingControlArn":"arn:arc:control/0000000000000002"}}
+slot 2 token 3 200 {}
+slot 3 token 4 200 {"SafetyRuleArn":"arn:arc:rule/0000000000000001"}
+slot 4 token 5 200 {}
+slot 5 token 6 409 {"Reason":"Forbidden","Rules":[{"Cause":"AssertFalse","SafetyRuleArn":"arn:arc:rule/0000000000000001"}],"__type":"ConflictException"}
+
 == an exclamation mark inverts AND
 new 0 0 0 a
 new 0 0 0 b

@@ -197,6 +197,11 @@ walk  0
 ---- status 6
 script line 1: Word
 
+== a line that isn't built
+net 0 once n
+---- status 6
+script line 1: Word
+
 == new without its other words
 new
 ---- status 6
