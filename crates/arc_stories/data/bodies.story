@@ -247,37 +247,37 @@ call 0 0 0 ListManagedResources {"a":{"a":{"a":{"a":{"a":{"a":{"a":{"a":{"a":{"a
 ---- status 6
 script line 1: BadJson
 
-== no body lacks the member
+== a member where there is no body is missing
 call 0 0 0 CreateControlPanel
 ---- status 6
 script line 1: MissingMember
 
-== an empty object lacks the member
+== a member in an empty object is missing
 call 0 0 0 CreateControlPanel {}
 ---- status 6
 script line 1: MissingMember
 
-== a member whose name is spelled in other letters lacks the member
+== a member that is spelled in other letters is missing
 call 0 0 0 CreateControlPanel {"controlPanelName":"a"}
 ---- status 6
 script line 1: MissingMember
 
-== a blank in the name of a member lacks the member
+== a member with a blank in its name is missing
 call 0 0 0 CreateControlPanel {"ControlPanelName ":"a"}
 ---- status 6
 script line 1: MissingMember
 
-== a member that is null lacks the member
+== a member that is null is missing
 call 0 0 0 CreateControlPanel {"ControlPanelName":null}
 ---- status 6
 script line 1: MissingMember
 
-== a member that is null the last time lacks the member
+== a member that is null the last time is missing
 call 0 0 0 CreateControlPanel {"ControlPanelName":"a","ControlPanelName":null}
 ---- status 6
 script line 1: MissingMember
 
-== a member of a member lacks the member
+== a member inside another is missing
 call 0 0 0 CreateControlPanel {"a":{"ControlPanelName":"a"}}
 ---- status 6
 script line 1: MissingMember

@@ -1,5 +1,184 @@
 # The bodies of practice runs, autoshifts and alarms.
 
+== nothing blocks a run where nothing is given
+call 0 0 0 RegisterManagedResource {"name":"r","availabilityZones":["z"]}
+call 0 0 0 CreatePracticeRunConfiguration {"resourceIdentifier":"arn:arc:resource/0000000000000001","blockedDates":null,"blockingAlarms":null,"outcomeAlarms":[{"alarmIdentifier":"o"}]}
+call 0 0 0 StartPracticeRun {"resourceIdentifier":"arn:arc:resource/0000000000000001","awayFrom":"z","comment":""}
+----
+slot 0 token 1 200 {"resourceIdentifier":"arn:arc:resource/0000000000000001"}
+slot 1 token 2 200 {}
+slot 2 token 3 200 {"awayFrom":"z","comment":"","expiryTime":1800000,"practiceRunOutcome":"PENDING","resourceIdentifier":"arn:arc:resource/0000000000000001","startTime":0,"status":"ACTIVE","zonalShiftId":"00000000-0000-0000-0000-000000000001"}
+
+== lists that are empty block nothing
+call 0 0 0 RegisterManagedResource {"name":"r","availabilityZones":["z"]}
+call 0 0 0 CreatePracticeRunConfiguration {"resourceIdentifier":"arn:arc:resource/0000000000000001","blockedDates":[],"blockedWindows":[],"blockingAlarms":[],"outcomeAlarms":[{"alarmIdentifier":"o"}]}
+call 0 0 0 StartPracticeRun {"resourceIdentifier":"arn:arc:resource/0000000000000001","awayFrom":"z","comment":""}
+----
+slot 0 token 1 200 {"resourceIdentifier":"arn:arc:resource/0000000000000001"}
+slot 1 token 2 200 {}
+slot 2 token 3 200 {"awayFrom":"z","comment":"","expiryTime":1800000,"practiceRunOutcome":"PENDING","resourceIdentifier":"arn:arc:resource/0000000000000001","startTime":0,"status":"ACTIVE","zonalShiftId":"00000000-0000-0000-0000-000000000001"}
+
+== a configuration takes each of its lists
+call 0 0 0 RegisterManagedResource {"name":"r","availabilityZones":["z"]}
+call 0 0 0 CreatePracticeRunConfiguration {"resourceIdentifier":"arn:arc:resource/0000000000000001","blockedDates":["1970-01-01"],"blockedWindows":["Fri:00:00-Fri:00:01"],"blockingAlarms":[{"alarmIdentifier":"b"}],"outcomeAlarms":[{"alarmIdentifier":"o"}]}
+call 0 0 0 StartPracticeRun {"resourceIdentifier":"arn:arc:resource/0000000000000001","awayFrom":"z","comment":""}
+call 0 86400000 0 StartPracticeRun {"resourceIdentifier":"arn:arc:resource/0000000000000001","awayFrom":"z","comment":""}
+call 0 172800000 0 SetAlarmState {"alarmIdentifier":"b","state":"ALARM"}
+call 0 172800000 0 StartPracticeRun {"resourceIdentifier":"arn:arc:resource/0000000000000001","awayFrom":"z","comment":""}
+call 0 172800000 0 SetAlarmState {"alarmIdentifier":"b","state":"OK"}
+call 0 172800000 0 SetAlarmState {"alarmIdentifier":"o","state":"ALARM"}
+call 0 172800000 0 StartPracticeRun {"resourceIdentifier":"arn:arc:resource/0000000000000001","awayFrom":"z","comment":""}
+----
+slot 0 token 1 200 {"resourceIdentifier":"arn:arc:resource/0000000000000001"}
+slot 1 token 2 200 {}
+slot 2 token 3 409 {"Cause":"BlockedDate","Reason":"Blocked","__type":"ConflictException"}
+slot 3 token 4 409 {"Cause":"BlockedWindow","Reason":"Blocked","__type":"ConflictException"}
+slot 4 token 5 200 {}
+slot 5 token 6 409 {"Cause":"BlockingAlarm","Reason":"Blocked","__type":"ConflictException"}
+slot 6 token 7 200 {}
+slot 7 token 8 200 {}
+slot 8 token 9 409 {"Cause":"OutcomeAlarm","Reason":"Blocked","__type":"ConflictException"}
+
+== an update keeps what it doesn't give
+call 0 0 0 RegisterManagedResource {"name":"r","availabilityZones":["z"]}
+call 0 0 0 CreatePracticeRunConfiguration {"resourceIdentifier":"arn:arc:resource/0000000000000001","blockedDates":["1970-01-01"],"blockedWindows":["Fri:00:00-Fri:00:01"],"blockingAlarms":[{"alarmIdentifier":"b"}],"outcomeAlarms":[{"alarmIdentifier":"o"}]}
+call 0 0 0 UpdatePracticeRunConfiguration {"resourceIdentifier":"arn:arc:resource/0000000000000001"}
+call 0 0 0 StartPracticeRun {"resourceIdentifier":"arn:arc:resource/0000000000000001","awayFrom":"z","comment":""}
+call 0 86400000 0 StartPracticeRun {"resourceIdentifier":"arn:arc:resource/0000000000000001","awayFrom":"z","comment":""}
+call 0 172800000 0 SetAlarmState {"alarmIdentifier":"b","state":"ALARM"}
+call 0 172800000 0 StartPracticeRun {"resourceIdentifier":"arn:arc:resource/0000000000000001","awayFrom":"z","comment":""}
+call 0 172800000 0 SetAlarmState {"alarmIdentifier":"b","state":"OK"}
+call 0 172800000 0 SetAlarmState {"alarmIdentifier":"o","state":"ALARM"}
+call 0 172800000 0 StartPracticeRun {"resourceIdentifier":"arn:arc:resource/0000000000000001","awayFrom":"z","comment":""}
+----
+slot 0 token 1 200 {"resourceIdentifier":"arn:arc:resource/0000000000000001"}
+slot 1 token 2 200 {}
+slot 2 token 3 200 {}
+slot 3 token 4 409 {"Cause":"BlockedDate","Reason":"Blocked","__type":"ConflictException"}
+slot 4 token 5 409 {"Cause":"BlockedWindow","Reason":"Blocked","__type":"ConflictException"}
+slot 5 token 6 200 {}
+slot 6 token 7 409 {"Cause":"BlockingAlarm","Reason":"Blocked","__type":"ConflictException"}
+slot 7 token 8 200 {}
+slot 8 token 9 200 {}
+slot 9 token 10 409 {"Cause":"OutcomeAlarm","Reason":"Blocked","__type":"ConflictException"}
+
+== an update replaces the list that it gives
+call 0 0 0 RegisterManagedResource {"name":"r","availabilityZones":["z"]}
+call 0 0 0 CreatePracticeRunConfiguration {"resourceIdentifier":"arn:arc:resource/0000000000000001","blockedDates":["1970-01-01"],"blockedWindows":["Thu:00:00-Fri:00:00"],"outcomeAlarms":[{"alarmIdentifier":"o"}]}
+call 0 0 0 UpdatePracticeRunConfiguration {"resourceIdentifier":"arn:arc:resource/0000000000000001","blockedDates":["1970-01-02"]}
+call 0 0 0 StartPracticeRun {"resourceIdentifier":"arn:arc:resource/0000000000000001","awayFrom":"z","comment":""}
+call 0 0 0 UpdatePracticeRunConfiguration {"resourceIdentifier":"arn:arc:resource/0000000000000001","blockedWindows":[]}
+call 0 0 0 StartPracticeRun {"resourceIdentifier":"arn:arc:resource/0000000000000001","awayFrom":"z","comment":""}
+----
+slot 0 token 1 200 {"resourceIdentifier":"arn:arc:resource/0000000000000001"}
+slot 1 token 2 200 {}
+slot 2 token 3 200 {}
+slot 3 token 4 409 {"Cause":"BlockedWindow","Reason":"Blocked","__type":"ConflictException"}
+slot 4 token 5 200 {}
+slot 5 token 6 200 {"awayFrom":"z","comment":"","expiryTime":1800000,"practiceRunOutcome":"PENDING","resourceIdentifier":"arn:arc:resource/0000000000000001","startTime":0,"status":"ACTIVE","zonalShiftId":"00000000-0000-0000-0000-000000000001"}
+
+== an update replaces the alarms that it gives
+call 0 0 0 RegisterManagedResource {"name":"r","availabilityZones":["z"]}
+call 0 0 0 CreatePracticeRunConfiguration {"resourceIdentifier":"arn:arc:resource/0000000000000001","blockingAlarms":[{"alarmIdentifier":"b"}],"outcomeAlarms":[{"alarmIdentifier":"o"}]}
+call 0 0 0 SetAlarmState {"alarmIdentifier":"b","state":"ALARM"}
+call 0 0 0 SetAlarmState {"alarmIdentifier":"o","state":"ALARM"}
+call 0 0 0 UpdatePracticeRunConfiguration {"resourceIdentifier":"arn:arc:resource/0000000000000001","blockingAlarms":[],"outcomeAlarms":[{"alarmIdentifier":"p"},{"alarmIdentifier":"p"}]}
+call 0 0 0 StartPracticeRun {"resourceIdentifier":"arn:arc:resource/0000000000000001","awayFrom":"z","comment":""}
+----
+slot 0 token 1 200 {"resourceIdentifier":"arn:arc:resource/0000000000000001"}
+slot 1 token 2 200 {}
+slot 2 token 3 200 {}
+slot 3 token 4 200 {}
+slot 4 token 5 200 {}
+slot 5 token 6 200 {"awayFrom":"z","comment":"","expiryTime":1800000,"practiceRunOutcome":"PENDING","resourceIdentifier":"arn:arc:resource/0000000000000001","startTime":0,"status":"ACTIVE","zonalShiftId":"00000000-0000-0000-0000-000000000001"}
+
+== a configuration with as much as it may have, in which dates, windows and alarms may stand twice
+call 0 0 0 RegisterManagedResource {"name":"r","availabilityZones":["z"]}
+call 0 0 0 CreatePracticeRunConfiguration {"resourceIdentifier":"arn:arc:resource/0000000000000001","blockedDates":["1970-01-01","1970-01-01","1970-01-01","1970-01-01","1970-01-01","1970-01-01","1970-01-01","1970-01-01","1970-01-01","1970-01-01","1970-01-01","1970-01-01","1970-01-01","1970-01-01","1970-01-01"],"blockedWindows":["Tue:00:00-Mon:00:00","Tue:00:00-Mon:00:00","Tue:00:00-Mon:00:00","Tue:00:00-Mon:00:00","Tue:00:00-Mon:00:00","Tue:00:00-Mon:00:00","Tue:00:00-Mon:00:00","Tue:00:00-Mon:00:00","Tue:00:00-Mon:00:00","Tue:00:00-Mon:00:00","Tue:00:00-Mon:00:00","Tue:00:00-Mon:00:00","Tue:00:00-Mon:00:00","Tue:00:00-Mon:00:00","Tue:00:00-Mon:00:00"],"blockingAlarms":[{"alarmIdentifier":"b"},{"alarmIdentifier":"b"},{"alarmIdentifier":"b"},{"alarmIdentifier":"b"}],"outcomeAlarms":[{"alarmIdentifier":"o"},{"alarmIdentifier":"o"},{"alarmIdentifier":"o"},{"alarmIdentifier":"o"}]}
+call 0 0 0 StartPracticeRun {"resourceIdentifier":"arn:arc:resource/0000000000000001","awayFrom":"z","comment":""}
+call 0 259200000 0 StartPracticeRun {"resourceIdentifier":"arn:arc:resource/0000000000000001","awayFrom":"z","comment":""}
+call 0 0 0 UpdatePracticeRunConfiguration {"resourceIdentifier":"arn:arc:resource/0000000000000001","blockedDates":["1970-01-01","1970-01-01","1970-01-01","1970-01-01","1970-01-01","1970-01-01","1970-01-01","1970-01-01","1970-01-01","1970-01-01","1970-01-01","1970-01-01","1970-01-01","1970-01-01","1970-01-01"],"blockedWindows":["Tue:00:00-Mon:00:00","Tue:00:00-Mon:00:00","Tue:00:00-Mon:00:00","Tue:00:00-Mon:00:00","Tue:00:00-Mon:00:00","Tue:00:00-Mon:00:00","Tue:00:00-Mon:00:00","Tue:00:00-Mon:00:00","Tue:00:00-Mon:00:00","Tue:00:00-Mon:00:00","Tue:00:00-Mon:00:00","Tue:00:00-Mon:00:00","Tue:00:00-Mon:00:00","Tue:00:00-Mon:00:00","Tue:00:00-Mon:00:00"],"blockingAlarms":[{"alarmIdentifier":"b"},{"alarmIdentifier":"b"},{"alarmIdentifier":"b"},{"alarmIdentifier":"b"}],"outcomeAlarms":[{"alarmIdentifier":"o"},{"alarmIdentifier":"o"},{"alarmIdentifier":"o"},{"alarmIdentifier":"o"}]}
+----
+slot 0 token 1 200 {"resourceIdentifier":"arn:arc:resource/0000000000000001"}
+slot 1 token 2 200 {}
+slot 2 token 3 409 {"Cause":"BlockedDate","Reason":"Blocked","__type":"ConflictException"}
+slot 3 token 4 409 {"Cause":"BlockedWindow","Reason":"Blocked","__type":"ConflictException"}
+slot 4 token 5 200 {}
+
+== the name of an alarm has up to 64 bytes
+call 0 0 0 RegisterManagedResource {"name":"r","availabilityZones":["z"]}
+call 0 0 0 CreatePracticeRunConfiguration {"resourceIdentifier":"arn:arc:resource/0000000000000001","outcomeAlarms":[{"alarmIdentifier":"xxxxxxxxxxxxxxxxxxxxxxxxxxxxxxxxxxxxxxxxxxxxxxxxxxxxxxxxxxxxxxxx"}]}
+call 0 0 0 SetAlarmState {"alarmIdentifier":"xxxxxxxxxxxxxxxxxxxxxxxxxxxxxxxxxxxxxxxxxxxxxxxxxxxxxxxxxxxxxxxx","state":"ALARM"}
+call 0 0 0 StartPracticeRun {"resourceIdentifier":"arn:arc:resource/0000000000000001","awayFrom":"z","comment":""}
+call 0 0 0 SetAlarmState {"alarmIdentifier":"xxxxxxxxxxxxxxxxxxxxxxxxxxxxxxxxxxxxxxxxxxxxxxxxxxxxxxxxxxxxxxxx","state":"OK"}
+call 0 0 0 StartPracticeRun {"resourceIdentifier":"arn:arc:resource/0000000000000001","awayFrom":"z","comment":""}
+----
+slot 0 token 1 200 {"resourceIdentifier":"arn:arc:resource/0000000000000001"}
+slot 1 token 2 200 {}
+slot 2 token 3 200 {}
+slot 3 token 4 409 {"Cause":"OutcomeAlarm","Reason":"Blocked","__type":"ConflictException"}
+slot 4 token 5 200 {}
+slot 5 token 6 200 {"awayFrom":"z","comment":"","expiryTime":1800000,"practiceRunOutcome":"PENDING","resourceIdentifier":"arn:arc:resource/0000000000000001","startTime":0,"status":"ACTIVE","zonalShiftId":"00000000-0000-0000-0000-000000000001"}
+
+== an alarm has other members, which are passed over
+call 0 0 0 RegisterManagedResource {"name":"r","availabilityZones":["z"]}
+call 0 0 0 CreatePracticeRunConfiguration {"resourceIdentifier":"arn:arc:resource/0000000000000001","outcomeAlarms":[{"region":1,"alarmIdentifier":"a","alarmIdentifier":"o"}]}
+call 0 0 0 SetAlarmState {"alarmIdentifier":"a","state":"ALARM"}
+call 0 0 0 StartPracticeRun {"resourceIdentifier":"arn:arc:resource/0000000000000001","awayFrom":"z","comment":""}
+----
+slot 0 token 1 200 {"resourceIdentifier":"arn:arc:resource/0000000000000001"}
+slot 1 token 2 200 {}
+slot 2 token 3 200 {}
+slot 3 token 4 200 {"awayFrom":"z","comment":"","expiryTime":1800000,"practiceRunOutcome":"PENDING","resourceIdentifier":"arn:arc:resource/0000000000000001","startTime":0,"status":"ACTIVE","zonalShiftId":"00000000-0000-0000-0000-000000000001"}
+
+== a configuration is deleted
+call 0 0 0 RegisterManagedResource {"name":"r","availabilityZones":["z"]}
+call 0 0 0 CreatePracticeRunConfiguration {"resourceIdentifier":"arn:arc:resource/0000000000000001","outcomeAlarms":[{"alarmIdentifier":"o"}]}
+call 0 0 0 DeletePracticeRunConfiguration {"resourceIdentifier":"arn:arc:resource/0000000000000001"}
+call 0 0 0 StartPracticeRun {"resourceIdentifier":"arn:arc:resource/0000000000000001","awayFrom":"z","comment":""}
+----
+slot 0 token 1 200 {"resourceIdentifier":"arn:arc:resource/0000000000000001"}
+slot 1 token 2 200 {}
+slot 2 token 3 200 {}
+slot 3 token 4 404 {"Reason":"NotConfigured","Resource":"arn:arc:resource/0000000000000001","__type":"ResourceNotFoundException"}
+
+== a run has its comment and is cancelled
+call 0 0 0 RegisterManagedResource {"name":"r","availabilityZones":["z"]}
+call 0 0 0 CreatePracticeRunConfiguration {"resourceIdentifier":"arn:arc:resource/0000000000000001","outcomeAlarms":[{"alarmIdentifier":"o"}]}
+call 0 0 0 StartPracticeRun {"resourceIdentifier":"arn:arc:resource/0000000000000001","awayFrom":"z","comment":"weekly"}
+call 0 1 0 CancelPracticeRun {"zonalShiftId":"00000000-0000-0000-0000-000000000001"}
+----
+slot 0 token 1 200 {"resourceIdentifier":"arn:arc:resource/0000000000000001"}
+slot 1 token 2 200 {}
+slot 2 token 3 200 {"awayFrom":"z","comment":"weekly","expiryTime":1800000,"practiceRunOutcome":"PENDING","resourceIdentifier":"arn:arc:resource/0000000000000001","startTime":0,"status":"ACTIVE","zonalShiftId":"00000000-0000-0000-0000-000000000001"}
+slot 3 token 4 200 {"awayFrom":"z","comment":"weekly","expiryTime":1800000,"practiceRunOutcome":"INTERRUPTED","resourceIdentifier":"arn:arc:resource/0000000000000001","startTime":0,"status":"CANCELED","zonalShiftId":"00000000-0000-0000-0000-000000000001"}
+
+== autoshift is enabled and disabled
+call 0 0 0 RegisterManagedResource {"name":"r","availabilityZones":["z"]}
+call 0 0 0 UpdateZonalAutoshiftConfiguration {"resourceIdentifier":"arn:arc:resource/0000000000000001","zonalAutoshiftStatus":"DISABLED"}
+call 0 0 0 CreatePracticeRunConfiguration {"resourceIdentifier":"arn:arc:resource/0000000000000001","outcomeAlarms":[{"alarmIdentifier":"o"}]}
+call 0 0 0 UpdateZonalAutoshiftConfiguration {"resourceIdentifier":"arn:arc:resource/0000000000000001","zonalAutoshiftStatus":"ENABLED"}
+call 0 0 0 GetManagedResource {"resourceIdentifier":"arn:arc:resource/0000000000000001"}
+call 0 0 0 UpdateZonalAutoshiftConfiguration {"resourceIdentifier":"arn:arc:resource/0000000000000001","zonalAutoshiftStatus":"DISABLED"}
+call 0 0 0 GetManagedResource {"resourceIdentifier":"arn:arc:resource/0000000000000001"}
+----
+slot 0 token 1 200 {"resourceIdentifier":"arn:arc:resource/0000000000000001"}
+slot 1 token 2 200 {"resourceIdentifier":"arn:arc:resource/0000000000000001","zonalAutoshiftStatus":"DISABLED"}
+slot 2 token 3 200 {}
+slot 3 token 4 200 {"resourceIdentifier":"arn:arc:resource/0000000000000001","zonalAutoshiftStatus":"ENABLED"}
+slot 4 token 5 200 {"appliedShift":null,"availabilityZones":["z"],"name":"r","resourceIdentifier":"arn:arc:resource/0000000000000001","zonalAutoshiftStatus":"ENABLED"}
+slot 5 token 6 200 {"resourceIdentifier":"arn:arc:resource/0000000000000001","zonalAutoshiftStatus":"DISABLED"}
+slot 6 token 7 200 {"appliedShift":null,"availabilityZones":["z"],"name":"r","resourceIdentifier":"arn:arc:resource/0000000000000001","zonalAutoshiftStatus":"DISABLED"}
+
+== an autoshift starts and ends in a zone of up to 32 bytes
+call 0 0 0 StartAutoshift {"awayFrom":"zzzzzzzzzzzzzzzzzzzzzzzzzzzzzzzz"}
+call 0 0 0 EndAutoshift {"awayFrom":"zzzzzzzzzzzzzzzzzzzzzzzzzzzzzzzz"}
+call 0 0 0 EndAutoshift {"awayFrom":"zzzzzzzzzzzzzzzzzzzzzzzzzzzzzzzz"}
+----
+slot 0 token 1 200 {}
+slot 1 token 2 200 {}
+slot 2 token 3 404 {"Reason":"NotFound","Resource":"zzzzzzzzzzzzzzzzzzzzzzzzzzzzzzzz","__type":"ResourceNotFoundException"}
+
 == CreatePracticeRunConfiguration without resourceIdentifier
 call 0 0 0 CreatePracticeRunConfiguration {"blockedDates":1,"blockedWindows":1,"blockingAlarms":1,"outcomeAlarms":1}
 ---- status 6
@@ -15,7 +194,7 @@ call 0 0 0 CreatePracticeRunConfiguration {"resourceIdentifier":"arn:arc:panel/0
 ---- status 6
 script line 1: BadId
 
-== CreatePracticeRunConfiguration with blockedDates that is a number
+== CreatePracticeRunConfiguration with blockedDates that are a number
 call 0 0 0 CreatePracticeRunConfiguration {"resourceIdentifier":"arn:arc:resource/0000000000000001","blockedDates":1,"blockedWindows":1,"blockingAlarms":1,"outcomeAlarms":1}
 ---- status 6
 script line 1: WrongType
@@ -45,7 +224,7 @@ call 0 0 0 CreatePracticeRunConfiguration {"resourceIdentifier":"arn:arc:resourc
 ---- status 6
 script line 1: BadDate
 
-== CreatePracticeRunConfiguration with blockedWindows that is a number
+== CreatePracticeRunConfiguration with blockedWindows that are a number
 call 0 0 0 CreatePracticeRunConfiguration {"resourceIdentifier":"arn:arc:resource/0000000000000001","blockedDates":[],"blockedWindows":1,"blockingAlarms":1,"outcomeAlarms":1}
 ---- status 6
 script line 1: WrongType
@@ -75,7 +254,7 @@ call 0 0 0 CreatePracticeRunConfiguration {"resourceIdentifier":"arn:arc:resourc
 ---- status 6
 script line 1: BadWindow
 
-== CreatePracticeRunConfiguration with blockingAlarms that is a number
+== CreatePracticeRunConfiguration with blockingAlarms that are a number
 call 0 0 0 CreatePracticeRunConfiguration {"resourceIdentifier":"arn:arc:resource/0000000000000001","blockedDates":[],"blockedWindows":[],"blockingAlarms":1,"outcomeAlarms":1}
 ---- status 6
 script line 1: WrongType
@@ -130,7 +309,7 @@ call 0 0 0 CreatePracticeRunConfiguration {"resourceIdentifier":"arn:arc:resourc
 ---- status 6
 script line 1: MissingMember
 
-== CreatePracticeRunConfiguration with outcomeAlarms that is a number
+== CreatePracticeRunConfiguration with outcomeAlarms that are a number
 call 0 0 0 CreatePracticeRunConfiguration {"resourceIdentifier":"arn:arc:resource/0000000000000001","blockedDates":[],"blockedWindows":[],"blockingAlarms":[{"alarmIdentifier":"o"}],"outcomeAlarms":1}
 ---- status 6
 script line 1: WrongType
@@ -200,7 +379,7 @@ call 0 0 0 UpdatePracticeRunConfiguration {"resourceIdentifier":"arn:arc:panel/0
 ---- status 6
 script line 1: BadId
 
-== UpdatePracticeRunConfiguration with blockedDates that is a number
+== UpdatePracticeRunConfiguration with blockedDates that are a number
 call 0 0 0 UpdatePracticeRunConfiguration {"resourceIdentifier":"arn:arc:resource/0000000000000001","blockedDates":1,"blockedWindows":1,"blockingAlarms":1,"outcomeAlarms":1}
 ---- status 6
 script line 1: WrongType
@@ -230,7 +409,7 @@ call 0 0 0 UpdatePracticeRunConfiguration {"resourceIdentifier":"arn:arc:resourc
 ---- status 6
 script line 1: BadDate
 
-== UpdatePracticeRunConfiguration with blockedWindows that is a number
+== UpdatePracticeRunConfiguration with blockedWindows that are a number
 call 0 0 0 UpdatePracticeRunConfiguration {"resourceIdentifier":"arn:arc:resource/0000000000000001","blockedDates":[],"blockedWindows":1,"blockingAlarms":1,"outcomeAlarms":1}
 ---- status 6
 script line 1: WrongType
@@ -260,7 +439,7 @@ call 0 0 0 UpdatePracticeRunConfiguration {"resourceIdentifier":"arn:arc:resourc
 ---- status 6
 script line 1: BadWindow
 
-== UpdatePracticeRunConfiguration with blockingAlarms that is a number
+== UpdatePracticeRunConfiguration with blockingAlarms that are a number
 call 0 0 0 UpdatePracticeRunConfiguration {"resourceIdentifier":"arn:arc:resource/0000000000000001","blockedDates":[],"blockedWindows":[],"blockingAlarms":1,"outcomeAlarms":1}
 ---- status 6
 script line 1: WrongType
@@ -310,7 +489,7 @@ call 0 0 0 UpdatePracticeRunConfiguration {"resourceIdentifier":"arn:arc:resourc
 ---- status 6
 script line 1: BadName
 
-== UpdatePracticeRunConfiguration with outcomeAlarms that is a number
+== UpdatePracticeRunConfiguration with outcomeAlarms that are a number
 call 0 0 0 UpdatePracticeRunConfiguration {"resourceIdentifier":"arn:arc:resource/0000000000000001","blockedDates":[],"blockedWindows":[],"blockingAlarms":[{"alarmIdentifier":"o"}],"outcomeAlarms":1}
 ---- status 6
 script line 1: WrongType
@@ -579,182 +758,3 @@ script line 1: BadStatus
 call 0 0 0 SetAlarmState {"alarmIdentifier":"a","state":"On"}
 ---- status 6
 script line 1: BadStatus
-
-== nothing blocks a run where nothing is given
-call 0 0 0 RegisterManagedResource {"name":"r","availabilityZones":["z"]}
-call 0 0 0 CreatePracticeRunConfiguration {"resourceIdentifier":"arn:arc:resource/0000000000000001","blockedDates":null,"blockingAlarms":null,"outcomeAlarms":[{"alarmIdentifier":"o"}]}
-call 0 0 0 StartPracticeRun {"resourceIdentifier":"arn:arc:resource/0000000000000001","awayFrom":"z","comment":""}
-----
-slot 0 token 1 200 {"resourceIdentifier":"arn:arc:resource/0000000000000001"}
-slot 1 token 2 200 {}
-slot 2 token 3 200 {"awayFrom":"z","comment":"","expiryTime":1800000,"practiceRunOutcome":"PENDING","resourceIdentifier":"arn:arc:resource/0000000000000001","startTime":0,"status":"ACTIVE","zonalShiftId":"00000000-0000-0000-0000-000000000001"}
-
-== lists that are empty block nothing
-call 0 0 0 RegisterManagedResource {"name":"r","availabilityZones":["z"]}
-call 0 0 0 CreatePracticeRunConfiguration {"resourceIdentifier":"arn:arc:resource/0000000000000001","blockedDates":[],"blockedWindows":[],"blockingAlarms":[],"outcomeAlarms":[{"alarmIdentifier":"o"}]}
-call 0 0 0 StartPracticeRun {"resourceIdentifier":"arn:arc:resource/0000000000000001","awayFrom":"z","comment":""}
-----
-slot 0 token 1 200 {"resourceIdentifier":"arn:arc:resource/0000000000000001"}
-slot 1 token 2 200 {}
-slot 2 token 3 200 {"awayFrom":"z","comment":"","expiryTime":1800000,"practiceRunOutcome":"PENDING","resourceIdentifier":"arn:arc:resource/0000000000000001","startTime":0,"status":"ACTIVE","zonalShiftId":"00000000-0000-0000-0000-000000000001"}
-
-== a configuration takes each of its lists
-call 0 0 0 RegisterManagedResource {"name":"r","availabilityZones":["z"]}
-call 0 0 0 CreatePracticeRunConfiguration {"resourceIdentifier":"arn:arc:resource/0000000000000001","blockedDates":["1970-01-01"],"blockedWindows":["Fri:00:00-Fri:00:01"],"blockingAlarms":[{"alarmIdentifier":"b"}],"outcomeAlarms":[{"alarmIdentifier":"o"}]}
-call 0 0 0 StartPracticeRun {"resourceIdentifier":"arn:arc:resource/0000000000000001","awayFrom":"z","comment":""}
-call 0 86400000 0 StartPracticeRun {"resourceIdentifier":"arn:arc:resource/0000000000000001","awayFrom":"z","comment":""}
-call 0 172800000 0 SetAlarmState {"alarmIdentifier":"b","state":"ALARM"}
-call 0 172800000 0 StartPracticeRun {"resourceIdentifier":"arn:arc:resource/0000000000000001","awayFrom":"z","comment":""}
-call 0 172800000 0 SetAlarmState {"alarmIdentifier":"b","state":"OK"}
-call 0 172800000 0 SetAlarmState {"alarmIdentifier":"o","state":"ALARM"}
-call 0 172800000 0 StartPracticeRun {"resourceIdentifier":"arn:arc:resource/0000000000000001","awayFrom":"z","comment":""}
-----
-slot 0 token 1 200 {"resourceIdentifier":"arn:arc:resource/0000000000000001"}
-slot 1 token 2 200 {}
-slot 2 token 3 409 {"Cause":"BlockedDate","Reason":"Blocked","__type":"ConflictException"}
-slot 3 token 4 409 {"Cause":"BlockedWindow","Reason":"Blocked","__type":"ConflictException"}
-slot 4 token 5 200 {}
-slot 5 token 6 409 {"Cause":"BlockingAlarm","Reason":"Blocked","__type":"ConflictException"}
-slot 6 token 7 200 {}
-slot 7 token 8 200 {}
-slot 8 token 9 409 {"Cause":"OutcomeAlarm","Reason":"Blocked","__type":"ConflictException"}
-
-== an update keeps what it doesn't give
-call 0 0 0 RegisterManagedResource {"name":"r","availabilityZones":["z"]}
-call 0 0 0 CreatePracticeRunConfiguration {"resourceIdentifier":"arn:arc:resource/0000000000000001","blockedDates":["1970-01-01"],"blockedWindows":["Fri:00:00-Fri:00:01"],"blockingAlarms":[{"alarmIdentifier":"b"}],"outcomeAlarms":[{"alarmIdentifier":"o"}]}
-call 0 0 0 UpdatePracticeRunConfiguration {"resourceIdentifier":"arn:arc:resource/0000000000000001"}
-call 0 0 0 StartPracticeRun {"resourceIdentifier":"arn:arc:resource/0000000000000001","awayFrom":"z","comment":""}
-call 0 86400000 0 StartPracticeRun {"resourceIdentifier":"arn:arc:resource/0000000000000001","awayFrom":"z","comment":""}
-call 0 172800000 0 SetAlarmState {"alarmIdentifier":"b","state":"ALARM"}
-call 0 172800000 0 StartPracticeRun {"resourceIdentifier":"arn:arc:resource/0000000000000001","awayFrom":"z","comment":""}
-call 0 172800000 0 SetAlarmState {"alarmIdentifier":"b","state":"OK"}
-call 0 172800000 0 SetAlarmState {"alarmIdentifier":"o","state":"ALARM"}
-call 0 172800000 0 StartPracticeRun {"resourceIdentifier":"arn:arc:resource/0000000000000001","awayFrom":"z","comment":""}
-----
-slot 0 token 1 200 {"resourceIdentifier":"arn:arc:resource/0000000000000001"}
-slot 1 token 2 200 {}
-slot 2 token 3 200 {}
-slot 3 token 4 409 {"Cause":"BlockedDate","Reason":"Blocked","__type":"ConflictException"}
-slot 4 token 5 409 {"Cause":"BlockedWindow","Reason":"Blocked","__type":"ConflictException"}
-slot 5 token 6 200 {}
-slot 6 token 7 409 {"Cause":"BlockingAlarm","Reason":"Blocked","__type":"ConflictException"}
-slot 7 token 8 200 {}
-slot 8 token 9 200 {}
-slot 9 token 10 409 {"Cause":"OutcomeAlarm","Reason":"Blocked","__type":"ConflictException"}
-
-== an update replaces the list that it gives
-call 0 0 0 RegisterManagedResource {"name":"r","availabilityZones":["z"]}
-call 0 0 0 CreatePracticeRunConfiguration {"resourceIdentifier":"arn:arc:resource/0000000000000001","blockedDates":["1970-01-01"],"blockedWindows":["Thu:00:00-Fri:00:00"],"outcomeAlarms":[{"alarmIdentifier":"o"}]}
-call 0 0 0 UpdatePracticeRunConfiguration {"resourceIdentifier":"arn:arc:resource/0000000000000001","blockedDates":["1970-01-02"]}
-call 0 0 0 StartPracticeRun {"resourceIdentifier":"arn:arc:resource/0000000000000001","awayFrom":"z","comment":""}
-call 0 0 0 UpdatePracticeRunConfiguration {"resourceIdentifier":"arn:arc:resource/0000000000000001","blockedWindows":[]}
-call 0 0 0 StartPracticeRun {"resourceIdentifier":"arn:arc:resource/0000000000000001","awayFrom":"z","comment":""}
-----
-slot 0 token 1 200 {"resourceIdentifier":"arn:arc:resource/0000000000000001"}
-slot 1 token 2 200 {}
-slot 2 token 3 200 {}
-slot 3 token 4 409 {"Cause":"BlockedWindow","Reason":"Blocked","__type":"ConflictException"}
-slot 4 token 5 200 {}
-slot 5 token 6 200 {"awayFrom":"z","comment":"","expiryTime":1800000,"practiceRunOutcome":"PENDING","resourceIdentifier":"arn:arc:resource/0000000000000001","startTime":0,"status":"ACTIVE","zonalShiftId":"00000000-0000-0000-0000-000000000001"}
-
-== an update replaces the alarms that it gives
-call 0 0 0 RegisterManagedResource {"name":"r","availabilityZones":["z"]}
-call 0 0 0 CreatePracticeRunConfiguration {"resourceIdentifier":"arn:arc:resource/0000000000000001","blockingAlarms":[{"alarmIdentifier":"b"}],"outcomeAlarms":[{"alarmIdentifier":"o"}]}
-call 0 0 0 SetAlarmState {"alarmIdentifier":"b","state":"ALARM"}
-call 0 0 0 SetAlarmState {"alarmIdentifier":"o","state":"ALARM"}
-call 0 0 0 UpdatePracticeRunConfiguration {"resourceIdentifier":"arn:arc:resource/0000000000000001","blockingAlarms":[],"outcomeAlarms":[{"alarmIdentifier":"p"},{"alarmIdentifier":"p"}]}
-call 0 0 0 StartPracticeRun {"resourceIdentifier":"arn:arc:resource/0000000000000001","awayFrom":"z","comment":""}
-----
-slot 0 token 1 200 {"resourceIdentifier":"arn:arc:resource/0000000000000001"}
-slot 1 token 2 200 {}
-slot 2 token 3 200 {}
-slot 3 token 4 200 {}
-slot 4 token 5 200 {}
-slot 5 token 6 200 {"awayFrom":"z","comment":"","expiryTime":1800000,"practiceRunOutcome":"PENDING","resourceIdentifier":"arn:arc:resource/0000000000000001","startTime":0,"status":"ACTIVE","zonalShiftId":"00000000-0000-0000-0000-000000000001"}
-
-== a configuration with as much as it may have, in which dates, windows and alarms may stand twice
-call 0 0 0 RegisterManagedResource {"name":"r","availabilityZones":["z"]}
-call 0 0 0 CreatePracticeRunConfiguration {"resourceIdentifier":"arn:arc:resource/0000000000000001","blockedDates":["1970-01-01","1970-01-01","1970-01-01","1970-01-01","1970-01-01","1970-01-01","1970-01-01","1970-01-01","1970-01-01","1970-01-01","1970-01-01","1970-01-01","1970-01-01","1970-01-01","1970-01-01"],"blockedWindows":["Tue:00:00-Mon:00:00","Tue:00:00-Mon:00:00","Tue:00:00-Mon:00:00","Tue:00:00-Mon:00:00","Tue:00:00-Mon:00:00","Tue:00:00-Mon:00:00","Tue:00:00-Mon:00:00","Tue:00:00-Mon:00:00","Tue:00:00-Mon:00:00","Tue:00:00-Mon:00:00","Tue:00:00-Mon:00:00","Tue:00:00-Mon:00:00","Tue:00:00-Mon:00:00","Tue:00:00-Mon:00:00","Tue:00:00-Mon:00:00"],"blockingAlarms":[{"alarmIdentifier":"b"},{"alarmIdentifier":"b"},{"alarmIdentifier":"b"},{"alarmIdentifier":"b"}],"outcomeAlarms":[{"alarmIdentifier":"o"},{"alarmIdentifier":"o"},{"alarmIdentifier":"o"},{"alarmIdentifier":"o"}]}
-call 0 0 0 StartPracticeRun {"resourceIdentifier":"arn:arc:resource/0000000000000001","awayFrom":"z","comment":""}
-call 0 259200000 0 StartPracticeRun {"resourceIdentifier":"arn:arc:resource/0000000000000001","awayFrom":"z","comment":""}
-call 0 0 0 UpdatePracticeRunConfiguration {"resourceIdentifier":"arn:arc:resource/0000000000000001","blockedDates":["1970-01-01","1970-01-01","1970-01-01","1970-01-01","1970-01-01","1970-01-01","1970-01-01","1970-01-01","1970-01-01","1970-01-01","1970-01-01","1970-01-01","1970-01-01","1970-01-01","1970-01-01"],"blockedWindows":["Tue:00:00-Mon:00:00","Tue:00:00-Mon:00:00","Tue:00:00-Mon:00:00","Tue:00:00-Mon:00:00","Tue:00:00-Mon:00:00","Tue:00:00-Mon:00:00","Tue:00:00-Mon:00:00","Tue:00:00-Mon:00:00","Tue:00:00-Mon:00:00","Tue:00:00-Mon:00:00","Tue:00:00-Mon:00:00","Tue:00:00-Mon:00:00","Tue:00:00-Mon:00:00","Tue:00:00-Mon:00:00","Tue:00:00-Mon:00:00"],"blockingAlarms":[{"alarmIdentifier":"b"},{"alarmIdentifier":"b"},{"alarmIdentifier":"b"},{"alarmIdentifier":"b"}],"outcomeAlarms":[{"alarmIdentifier":"o"},{"alarmIdentifier":"o"},{"alarmIdentifier":"o"},{"alarmIdentifier":"o"}]}
-----
-slot 0 token 1 200 {"resourceIdentifier":"arn:arc:resource/0000000000000001"}
-slot 1 token 2 200 {}
-slot 2 token 3 409 {"Cause":"BlockedDate","Reason":"Blocked","__type":"ConflictException"}
-slot 3 token 4 409 {"Cause":"BlockedWindow","Reason":"Blocked","__type":"ConflictException"}
-slot 4 token 5 200 {}
-
-== the name of an alarm has up to 64 bytes
-call 0 0 0 RegisterManagedResource {"name":"r","availabilityZones":["z"]}
-call 0 0 0 CreatePracticeRunConfiguration {"resourceIdentifier":"arn:arc:resource/0000000000000001","outcomeAlarms":[{"alarmIdentifier":"xxxxxxxxxxxxxxxxxxxxxxxxxxxxxxxxxxxxxxxxxxxxxxxxxxxxxxxxxxxxxxxx"}]}
-call 0 0 0 SetAlarmState {"alarmIdentifier":"xxxxxxxxxxxxxxxxxxxxxxxxxxxxxxxxxxxxxxxxxxxxxxxxxxxxxxxxxxxxxxxx","state":"ALARM"}
-call 0 0 0 StartPracticeRun {"resourceIdentifier":"arn:arc:resource/0000000000000001","awayFrom":"z","comment":""}
-call 0 0 0 SetAlarmState {"alarmIdentifier":"xxxxxxxxxxxxxxxxxxxxxxxxxxxxxxxxxxxxxxxxxxxxxxxxxxxxxxxxxxxxxxxx","state":"OK"}
-call 0 0 0 StartPracticeRun {"resourceIdentifier":"arn:arc:resource/0000000000000001","awayFrom":"z","comment":""}
-----
-slot 0 token 1 200 {"resourceIdentifier":"arn:arc:resource/0000000000000001"}
-slot 1 token 2 200 {}
-slot 2 token 3 200 {}
-slot 3 token 4 409 {"Cause":"OutcomeAlarm","Reason":"Blocked","__type":"ConflictException"}
-slot 4 token 5 200 {}
-slot 5 token 6 200 {"awayFrom":"z","comment":"","expiryTime":1800000,"practiceRunOutcome":"PENDING","resourceIdentifier":"arn:arc:resource/0000000000000001","startTime":0,"status":"ACTIVE","zonalShiftId":"00000000-0000-0000-0000-000000000001"}
-
-== an alarm has other members, which are passed over
-call 0 0 0 RegisterManagedResource {"name":"r","availabilityZones":["z"]}
-call 0 0 0 CreatePracticeRunConfiguration {"resourceIdentifier":"arn:arc:resource/0000000000000001","outcomeAlarms":[{"region":1,"alarmIdentifier":"a","alarmIdentifier":"o"}]}
-call 0 0 0 SetAlarmState {"alarmIdentifier":"a","state":"ALARM"}
-call 0 0 0 StartPracticeRun {"resourceIdentifier":"arn:arc:resource/0000000000000001","awayFrom":"z","comment":""}
-----
-slot 0 token 1 200 {"resourceIdentifier":"arn:arc:resource/0000000000000001"}
-slot 1 token 2 200 {}
-slot 2 token 3 200 {}
-slot 3 token 4 200 {"awayFrom":"z","comment":"","expiryTime":1800000,"practiceRunOutcome":"PENDING","resourceIdentifier":"arn:arc:resource/0000000000000001","startTime":0,"status":"ACTIVE","zonalShiftId":"00000000-0000-0000-0000-000000000001"}
-
-== a configuration is deleted
-call 0 0 0 RegisterManagedResource {"name":"r","availabilityZones":["z"]}
-call 0 0 0 CreatePracticeRunConfiguration {"resourceIdentifier":"arn:arc:resource/0000000000000001","outcomeAlarms":[{"alarmIdentifier":"o"}]}
-call 0 0 0 DeletePracticeRunConfiguration {"resourceIdentifier":"arn:arc:resource/0000000000000001"}
-call 0 0 0 StartPracticeRun {"resourceIdentifier":"arn:arc:resource/0000000000000001","awayFrom":"z","comment":""}
-----
-slot 0 token 1 200 {"resourceIdentifier":"arn:arc:resource/0000000000000001"}
-slot 1 token 2 200 {}
-slot 2 token 3 200 {}
-slot 3 token 4 404 {"Reason":"NotConfigured","Resource":"arn:arc:resource/0000000000000001","__type":"ResourceNotFoundException"}
-
-== a run has its comment and is cancelled
-call 0 0 0 RegisterManagedResource {"name":"r","availabilityZones":["z"]}
-call 0 0 0 CreatePracticeRunConfiguration {"resourceIdentifier":"arn:arc:resource/0000000000000001","outcomeAlarms":[{"alarmIdentifier":"o"}]}
-call 0 0 0 StartPracticeRun {"resourceIdentifier":"arn:arc:resource/0000000000000001","awayFrom":"z","comment":"weekly"}
-call 0 1 0 CancelPracticeRun {"zonalShiftId":"00000000-0000-0000-0000-000000000001"}
-----
-slot 0 token 1 200 {"resourceIdentifier":"arn:arc:resource/0000000000000001"}
-slot 1 token 2 200 {}
-slot 2 token 3 200 {"awayFrom":"z","comment":"weekly","expiryTime":1800000,"practiceRunOutcome":"PENDING","resourceIdentifier":"arn:arc:resource/0000000000000001","startTime":0,"status":"ACTIVE","zonalShiftId":"00000000-0000-0000-0000-000000000001"}
-slot 3 token 4 200 {"awayFrom":"z","comment":"weekly","expiryTime":1800000,"practiceRunOutcome":"INTERRUPTED","resourceIdentifier":"arn:arc:resource/0000000000000001","startTime":0,"status":"CANCELED","zonalShiftId":"00000000-0000-0000-0000-000000000001"}
-
-== autoshift is enabled and disabled
-call 0 0 0 RegisterManagedResource {"name":"r","availabilityZones":["z"]}
-call 0 0 0 UpdateZonalAutoshiftConfiguration {"resourceIdentifier":"arn:arc:resource/0000000000000001","zonalAutoshiftStatus":"DISABLED"}
-call 0 0 0 CreatePracticeRunConfiguration {"resourceIdentifier":"arn:arc:resource/0000000000000001","outcomeAlarms":[{"alarmIdentifier":"o"}]}
-call 0 0 0 UpdateZonalAutoshiftConfiguration {"resourceIdentifier":"arn:arc:resource/0000000000000001","zonalAutoshiftStatus":"ENABLED"}
-call 0 0 0 GetManagedResource {"resourceIdentifier":"arn:arc:resource/0000000000000001"}
-call 0 0 0 UpdateZonalAutoshiftConfiguration {"resourceIdentifier":"arn:arc:resource/0000000000000001","zonalAutoshiftStatus":"DISABLED"}
-call 0 0 0 GetManagedResource {"resourceIdentifier":"arn:arc:resource/0000000000000001"}
-----
-slot 0 token 1 200 {"resourceIdentifier":"arn:arc:resource/0000000000000001"}
-slot 1 token 2 200 {"resourceIdentifier":"arn:arc:resource/0000000000000001","zonalAutoshiftStatus":"DISABLED"}
-slot 2 token 3 200 {}
-slot 3 token 4 200 {"resourceIdentifier":"arn:arc:resource/0000000000000001","zonalAutoshiftStatus":"ENABLED"}
-slot 4 token 5 200 {"appliedShift":null,"availabilityZones":["z"],"name":"r","resourceIdentifier":"arn:arc:resource/0000000000000001","zonalAutoshiftStatus":"ENABLED"}
-slot 5 token 6 200 {"resourceIdentifier":"arn:arc:resource/0000000000000001","zonalAutoshiftStatus":"DISABLED"}
-slot 6 token 7 200 {"appliedShift":null,"availabilityZones":["z"],"name":"r","resourceIdentifier":"arn:arc:resource/0000000000000001","zonalAutoshiftStatus":"DISABLED"}
-
-== an autoshift starts and ends in a zone of up to 32 bytes
-call 0 0 0 StartAutoshift {"awayFrom":"zzzzzzzzzzzzzzzzzzzzzzzzzzzzzzzz"}
-call 0 0 0 EndAutoshift {"awayFrom":"zzzzzzzzzzzzzzzzzzzzzzzzzzzzzzzz"}
-call 0 0 0 EndAutoshift {"awayFrom":"zzzzzzzzzzzzzzzzzzzzzzzzzzzzzzzz"}
-----
-slot 0 token 1 200 {}
-slot 1 token 2 200 {}
-slot 2 token 3 404 {"Reason":"NotFound","Resource":"zzzzzzzzzzzzzzzzzzzzzzzzzzzzzzzz","__type":"ResourceNotFoundException"}

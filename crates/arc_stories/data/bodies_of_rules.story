@@ -1,5 +1,180 @@
 # The bodies of safety rules.
 
+== AND ignores a threshold, however great it is
+new 0 0 0 a
+new 0 0 0 b
+batch 0 0 0 1=On,2=On -
+call 0 0 0 CreateSafetyRule {"AssertionRule":{"Name":"a","ControlPanelArn":"arn:arc:panel/0000000000000001","AssertedControls":["arn:arc:control/0000000000000001","arn:arc:control/0000000000000002"],"RuleConfig":{"Type":"AND","Threshold":18446744073709551615},"WaitPeriodMs":0}}
+set 0 0 0 1 Off
+----
+slot 0 token 1 200 {"RoutingControl":{"ControlPanelArn":"arn:arc:panel/0000000000000001","Name":"a","RoutingControlArn":"arn:arc:control/0000000000000001"}}
+slot 1 token 2 200 {"RoutingControl":{"ControlPanelArn":"arn:arc:panel/0000000000000001","Name":"b","RoutingControlArn":"arn:arc:control/0000000000000002"}}
+slot 2 token 3 200 {}
+slot 3 token 4 200 {"SafetyRuleArn":"arn:arc:rule/0000000000000001"}
+slot 4 token 5 409 {"Reason":"Forbidden","Rules":[{"Cause":"AssertFalse","SafetyRuleArn":"arn:arc:rule/0000000000000001"}],"__type":"ConflictException"}
+
+== OR ignores a threshold, so that one control is enough
+new 0 0 0 a
+new 0 0 0 b
+batch 0 0 0 1=On,2=On -
+call 0 0 0 CreateSafetyRule {"AssertionRule":{"Name":"a","ControlPanelArn":"arn:arc:panel/0000000000000001","AssertedControls":["arn:arc:control/0000000000000001","arn:arc:control/0000000000000002"],"RuleConfig":{"Type":"OR","Threshold":2},"WaitPeriodMs":0}}
+set 0 0 0 1 Off
+set 0 0 0 2 Off
+----
+slot 0 token 1 200 {"RoutingControl":{"ControlPanelArn":"arn:arc:panel/0000000000000001","Name":"a","RoutingControlArn":"arn:arc:control/0000000000000001"}}
+slot 1 token 2 200 {"RoutingControl":{"ControlPanelArn":"arn:arc:panel/0000000000000001","Name":"b","RoutingControlArn":"arn:arc:control/0000000000000002"}}
+slot 2 token 3 200 {}
+slot 3 token 4 200 {"SafetyRuleArn":"arn:arc:rule/0000000000000001"}
+slot 4 token 5 200 {}
+slot 5 token 6 409 {"Reason":"Forbidden","Rules":[{"Cause":"AssertFalse","SafetyRuleArn":"arn:arc:rule/0000000000000001"}],"__type":"ConflictException"}
+
+== ATLEAST takes its threshold
+new 0 0 0 a
+new 0 0 0 b
+batch 0 0 0 1=On,2=On -
+call 0 0 0 CreateSafetyRule {"AssertionRule":{"Name":"a","ControlPanelArn":"arn:arc:panel/0000000000000001","AssertedControls":["arn:arc:control/0000000000000001","arn:arc:control/0000000000000002"],"RuleConfig":{"Type":"ATLEAST","Threshold":2},"WaitPeriodMs":0}}
+set 0 0 0 1 Off
+----
+slot 0 token 1 200 {"RoutingControl":{"ControlPanelArn":"arn:arc:panel/0000000000000001","Name":"a","RoutingControlArn":"arn:arc:control/0000000000000001"}}
+slot 1 token 2 200 {"RoutingControl":{"ControlPanelArn":"arn:arc:panel/0000000000000001","Name":"b","RoutingControlArn":"arn:arc:control/0000000000000002"}}
+slot 2 token 3 200 {}
+slot 3 token 4 200 {"SafetyRuleArn":"arn:arc:rule/0000000000000001"}
+slot 4 token 5 409 {"Reason":"Forbidden","Rules":[{"Cause":"AssertFalse","SafetyRuleArn":"arn:arc:rule/0000000000000001"}],"__type":"ConflictException"}
+
+== a rule isn't inverted where nothing is given
+new 0 0 0 a
+new 0 0 0 b
+call 0 0 0 CreateSafetyRule {"AssertionRule":{"Name":"a","ControlPanelArn":"arn:arc:panel/0000000000000001","AssertedControls":["arn:arc:control/0000000000000001","arn:arc:control/0000000000000002"],"RuleConfig":{"Type":"OR"},"WaitPeriodMs":0}}
+set 0 0 0 1 On
+----
+slot 0 token 1 200 {"RoutingControl":{"ControlPanelArn":"arn:arc:panel/0000000000000001","Name":"a","RoutingControlArn":"arn:arc:control/0000000000000001"}}
+slot 1 token 2 200 {"RoutingControl":{"ControlPanelArn":"arn:arc:panel/0000000000000001","Name":"b","RoutingControlArn":"arn:arc:control/0000000000000002"}}
+slot 2 token 3 200 {"SafetyRuleArn":"arn:arc:rule/0000000000000001"}
+slot 3 token 4 200 {}
+
+== a rule isn't inverted where null is given
+new 0 0 0 a
+new 0 0 0 b
+call 0 0 0 CreateSafetyRule {"AssertionRule":{"Name":"a","ControlPanelArn":"arn:arc:panel/0000000000000001","AssertedControls":["arn:arc:control/0000000000000001","arn:arc:control/0000000000000002"],"RuleConfig":{"Type":"OR","Inverted":null},"WaitPeriodMs":0}}
+set 0 0 0 1 On
+----
+slot 0 token 1 200 {"RoutingControl":{"ControlPanelArn":"arn:arc:panel/0000000000000001","Name":"a","RoutingControlArn":"arn:arc:control/0000000000000001"}}
+slot 1 token 2 200 {"RoutingControl":{"ControlPanelArn":"arn:arc:panel/0000000000000001","Name":"b","RoutingControlArn":"arn:arc:control/0000000000000002"}}
+slot 2 token 3 200 {"SafetyRuleArn":"arn:arc:rule/0000000000000001"}
+slot 3 token 4 200 {}
+
+== a rule isn't inverted where false is given
+new 0 0 0 a
+new 0 0 0 b
+call 0 0 0 CreateSafetyRule {"AssertionRule":{"Name":"a","ControlPanelArn":"arn:arc:panel/0000000000000001","AssertedControls":["arn:arc:control/0000000000000001","arn:arc:control/0000000000000002"],"RuleConfig":{"Type":"OR","Inverted":false},"WaitPeriodMs":0}}
+set 0 0 0 1 On
+----
+slot 0 token 1 200 {"RoutingControl":{"ControlPanelArn":"arn:arc:panel/0000000000000001","Name":"a","RoutingControlArn":"arn:arc:control/0000000000000001"}}
+slot 1 token 2 200 {"RoutingControl":{"ControlPanelArn":"arn:arc:panel/0000000000000001","Name":"b","RoutingControlArn":"arn:arc:control/0000000000000002"}}
+slot 2 token 3 200 {"SafetyRuleArn":"arn:arc:rule/0000000000000001"}
+slot 3 token 4 200 {}
+
+== a rule is inverted where true is given
+new 0 0 0 a
+new 0 0 0 b
+call 0 0 0 CreateSafetyRule {"AssertionRule":{"Name":"a","ControlPanelArn":"arn:arc:panel/0000000000000001","AssertedControls":["arn:arc:control/0000000000000001","arn:arc:control/0000000000000002"],"RuleConfig":{"Type":"OR","Inverted":true},"WaitPeriodMs":0}}
+set 0 0 0 1 On
+----
+slot 0 token 1 200 {"RoutingControl":{"ControlPanelArn":"arn:arc:panel/0000000000000001","Name":"a","RoutingControlArn":"arn:arc:control/0000000000000001"}}
+slot 1 token 2 200 {"RoutingControl":{"ControlPanelArn":"arn:arc:panel/0000000000000001","Name":"b","RoutingControlArn":"arn:arc:control/0000000000000002"}}
+slot 2 token 3 200 {"SafetyRuleArn":"arn:arc:rule/0000000000000001"}
+slot 3 token 4 409 {"Reason":"Forbidden","Rules":[{"Cause":"AssertFalse","SafetyRuleArn":"arn:arc:rule/0000000000000001"}],"__type":"ConflictException"}
+
+== a gate takes its gating controls, its targets, its threshold and its inversion
+new 0 0 0 a
+new 0 0 0 b
+new 0 0 0 c
+call 0 0 0 CreateSafetyRule {"GatingRule":{"Name":"a","ControlPanelArn":"arn:arc:panel/0000000000000001","GatingControls":["arn:arc:control/0000000000000002","arn:arc:control/0000000000000001"],"TargetControls":["arn:arc:control/0000000000000003"],"RuleConfig":{"Type":"ATLEAST","Threshold":2,"Inverted":true},"WaitPeriodMs":0}}
+batch 0 0 0 1=On,2=On -
+set 0 0 0 3 On
+set 0 0 0 1 Off
+set 0 0 0 3 On
+----
+slot 0 token 1 200 {"RoutingControl":{"ControlPanelArn":"arn:arc:panel/0000000000000001","Name":"a","RoutingControlArn":"arn:arc:control/0000000000000001"}}
+slot 1 token 2 200 {"RoutingControl":{"ControlPanelArn":"arn:arc:panel/0000000000000001","Name":"b","RoutingControlArn":"arn:arc:control/0000000000000002"}}
+slot 2 token 3 200 {"RoutingControl":{"ControlPanelArn":"arn:arc:panel/0000000000000001","Name":"c","RoutingControlArn":"arn:arc:control/0000000000000003"}}
+slot 3 token 4 200 {"SafetyRuleArn":"arn:arc:rule/0000000000000001"}
+slot 4 token 5 200 {}
+slot 5 token 6 409 {"Reason":"Forbidden","Rules":[{"Cause":"GateClosed","SafetyRuleArn":"arn:arc:rule/0000000000000001"}],"__type":"ConflictException"}
+slot 6 token 7 200 {}
+slot 7 token 8 200 {}
+
+== rules take their names, kinds and waits
+new 0 0 0 a
+new 0 0 0 b
+call 0 0 0 CreateSafetyRule {"AssertionRule":{"Name":"xxxxxxxxxxxxxxxxxxxxxxxxxxxxxxxxxxxxxxxxxxxxxxxxxxxxxxxxxxxxxxxx","ControlPanelArn":"arn:arc:panel/0000000000000001","AssertedControls":["arn:arc:control/0000000000000001","arn:arc:control/0000000000000002"],"RuleConfig":{"Type":"AND"},"WaitPeriodMs":604800000}}
+call 0 0 0 CreateSafetyRule {"GatingRule":{"Name":"g","ControlPanelArn":"arn:arc:panel/0000000000000001","GatingControls":["arn:arc:control/0000000000000001"],"TargetControls":["arn:arc:control/0000000000000002"],"RuleConfig":{"Type":"AND"},"WaitPeriodMs":0}}
+call 0 0 0 ListSafetyRules {"ControlPanelArn":"arn:arc:panel/0000000000000001"}
+----
+slot 0 token 1 200 {"RoutingControl":{"ControlPanelArn":"arn:arc:panel/0000000000000001","Name":"a","RoutingControlArn":"arn:arc:control/0000000000000001"}}
+slot 1 token 2 200 {"RoutingControl":{"ControlPanelArn":"arn:arc:panel/0000000000000001","Name":"b","RoutingControlArn":"arn:arc:control/0000000000000002"}}
+slot 2 token 3 200 {"SafetyRuleArn":"arn:arc:rule/0000000000000001"}
+slot 3 token 4 200 {"SafetyRuleArn":"arn:arc:rule/0000000000000002"}
+slot 4 token 5 200 {"SafetyRules":[{"Name":"xxxxxxxxxxxxxxxxxxxxxxxxxxxxxxxxxxxxxxxxxxxxxxxxxxxxxxxxxxxxxxxx","SafetyRuleArn":"arn:arc:rule/0000000000000001","Type":"ASSERTION","WaitPeriodMs":604800000},{"Name":"g","SafetyRuleArn":"arn:arc:rule/0000000000000002","Type":"GATING","WaitPeriodMs":0}]}
+
+== an update gives a rule another name and wait
+new 0 0 0 a
+new 0 0 0 b
+assert 0 0 0 r AND 5 1
+gate 0 0 0 g AND 6 1 2
+call 0 0 0 UpdateSafetyRule {"GatingRuleUpdate":{"SafetyRuleArn":"arn:arc:rule/0000000000000002","Name":"b","WaitPeriodMs":7}}
+call 0 0 0 UpdateSafetyRule {"AssertionRuleUpdate":{"SafetyRuleArn":"arn:arc:rule/0000000000000001","Name":"a","WaitPeriodMs":604800000}}
+call 0 0 0 ListSafetyRules {"ControlPanelArn":"arn:arc:panel/0000000000000001"}
+----
+slot 0 token 1 200 {"RoutingControl":{"ControlPanelArn":"arn:arc:panel/0000000000000001","Name":"a","RoutingControlArn":"arn:arc:control/0000000000000001"}}
+slot 1 token 2 200 {"RoutingControl":{"ControlPanelArn":"arn:arc:panel/0000000000000001","Name":"b","RoutingControlArn":"arn:arc:control/0000000000000002"}}
+slot 2 token 3 200 {"SafetyRuleArn":"arn:arc:rule/0000000000000001"}
+slot 3 token 4 200 {"SafetyRuleArn":"arn:arc:rule/0000000000000002"}
+slot 4 token 5 200 {}
+slot 5 token 6 200 {}
+slot 6 token 7 200 {"SafetyRules":[{"Name":"a","SafetyRuleArn":"arn:arc:rule/0000000000000001","Type":"ASSERTION","WaitPeriodMs":604800000},{"Name":"b","SafetyRuleArn":"arn:arc:rule/0000000000000002","Type":"GATING","WaitPeriodMs":7}]}
+
+== an update tells the kind of its rule
+new 0 0 0 a
+new 0 0 0 b
+assert 0 0 0 r AND 5 1
+call 0 0 0 UpdateSafetyRule {"GatingRuleUpdate":{"SafetyRuleArn":"arn:arc:rule/0000000000000001","Name":"b","WaitPeriodMs":7}}
+----
+slot 0 token 1 200 {"RoutingControl":{"ControlPanelArn":"arn:arc:panel/0000000000000001","Name":"a","RoutingControlArn":"arn:arc:control/0000000000000001"}}
+slot 1 token 2 200 {"RoutingControl":{"ControlPanelArn":"arn:arc:panel/0000000000000001","Name":"b","RoutingControlArn":"arn:arc:control/0000000000000002"}}
+slot 2 token 3 200 {"SafetyRuleArn":"arn:arc:rule/0000000000000001"}
+slot 3 token 4 404 {"Reason":"NotFound","Resource":"arn:arc:rule/0000000000000001","__type":"ResourceNotFoundException"}
+
+== a rule is deleted
+new 0 0 0 a
+assert 0 0 0 r AND 0 1
+call 0 0 0 DeleteSafetyRule {"SafetyRuleArn":"arn:arc:rule/0000000000000001"}
+call 0 0 0 ListSafetyRules {"ControlPanelArn":"arn:arc:panel/0000000000000001"}
+----
+slot 0 token 1 200 {"RoutingControl":{"ControlPanelArn":"arn:arc:panel/0000000000000001","Name":"a","RoutingControlArn":"arn:arc:control/0000000000000001"}}
+slot 1 token 2 200 {"SafetyRuleArn":"arn:arc:rule/0000000000000001"}
+slot 2 token 3 200 {}
+slot 3 token 4 200 {"SafetyRules":[]}
+
+== a rule is made in the panel that is given
+call 0 0 0 CreateSafetyRule {"AssertionRule":{"Name":"a","ControlPanelArn":"arn:arc:panel/0000000000000002","AssertedControls":["arn:arc:control/0000000000000001"],"RuleConfig":{"Type":"AND"},"WaitPeriodMs":0}}
+----
+slot 0 token 1 404 {"Reason":"NotFound","Resource":"arn:arc:panel/0000000000000002","__type":"ResourceNotFoundException"}
+
+== the first control in the order of the lists that the panel lacks is told
+new 0 0 0 a
+call 0 0 0 CreateSafetyRule {"GatingRule":{"Name":"a","ControlPanelArn":"arn:arc:panel/0000000000000001","GatingControls":["arn:arc:control/0000000000000001","arn:arc:control/0000000000000009"],"TargetControls":["arn:arc:control/0000000000000008"],"RuleConfig":{"Type":"AND"},"WaitPeriodMs":0}}
+call 0 0 0 CreateSafetyRule {"GatingRule":{"Name":"a","ControlPanelArn":"arn:arc:panel/0000000000000001","GatingControls":["arn:arc:control/0000000000000001"],"TargetControls":["arn:arc:control/0000000000000008","arn:arc:control/0000000000000007"],"RuleConfig":{"Type":"AND"},"WaitPeriodMs":0}}
+----
+slot 0 token 1 200 {"RoutingControl":{"ControlPanelArn":"arn:arc:panel/0000000000000001","Name":"a","RoutingControlArn":"arn:arc:control/0000000000000001"}}
+slot 1 token 2 404 {"Reason":"NotFound","Resource":"arn:arc:control/0000000000000009","__type":"ResourceNotFoundException"}
+slot 2 token 3 404 {"Reason":"NotFound","Resource":"arn:arc:control/0000000000000008","__type":"ResourceNotFoundException"}
+
+== the largest rule
+call 0 0 0 CreateSafetyRule {"GatingRule":{"Name":"xxxxxxxxxxxxxxxxxxxxxxxxxxxxxxxxxxxxxxxxxxxxxxxxxxxxxxxxxxxxxxxx","ControlPanelArn":"arn:arc:panel/0000000000000001","GatingControls":["arn:arc:control/0000000000000001","arn:arc:control/0000000000000002","arn:arc:control/0000000000000003","arn:arc:control/0000000000000004","arn:arc:control/0000000000000005","arn:arc:control/0000000000000006","arn:arc:control/0000000000000007","arn:arc:control/0000000000000008","arn:arc:control/0000000000000009","arn:arc:control/000000000000000a","arn:arc:control/000000000000000b","arn:arc:control/000000000000000c","arn:arc:control/000000000000000d","arn:arc:control/000000000000000e","arn:arc:control/000000000000000f","arn:arc:control/0000000000000010","arn:arc:control/0000000000000011","arn:arc:control/0000000000000012","arn:arc:control/0000000000000013","arn:arc:control/0000000000000014","arn:arc:control/0000000000000015","arn:arc:control/0000000000000016","arn:arc:control/0000000000000017","arn:arc:control/0000000000000018","arn:arc:control/0000000000000019","arn:arc:control/000000000000001a","arn:arc:control/000000000000001b","arn:arc:control/000000000000001c","arn:arc:control/000000000000001d","arn:arc:control/000000000000001e","arn:arc:control/000000000000001f","arn:arc:control/0000000000000020"],"TargetControls":["arn:arc:control/0000000000000001","arn:arc:control/0000000000000002","arn:arc:control/0000000000000003","arn:arc:control/0000000000000004","arn:arc:control/0000000000000005","arn:arc:control/0000000000000006","arn:arc:control/0000000000000007","arn:arc:control/0000000000000008","arn:arc:control/0000000000000009","arn:arc:control/000000000000000a","arn:arc:control/000000000000000b","arn:arc:control/000000000000000c","arn:arc:control/000000000000000d","arn:arc:control/000000000000000e","arn:arc:control/000000000000000f","arn:arc:control/0000000000000010","arn:arc:control/0000000000000011","arn:arc:control/0000000000000012","arn:arc:control/0000000000000013","arn:arc:control/0000000000000014","arn:arc:control/0000000000000015","arn:arc:control/0000000000000016","arn:arc:control/0000000000000017","arn:arc:control/0000000000000018","arn:arc:control/0000000000000019","arn:arc:control/000000000000001a","arn:arc:control/000000000000001b","arn:arc:control/000000000000001c","arn:arc:control/000000000000001d","arn:arc:control/000000000000001e","arn:arc:control/000000000000001f","arn:arc:control/0000000000000020"],"RuleConfig":{"Type":"ATLEAST","Threshold":32},"WaitPeriodMs":604800000}}
+----
+slot 0 token 1 404 {"Reason":"NotFound","Resource":"arn:arc:control/0000000000000001","__type":"ResourceNotFoundException"}
+
 == a new rule without a kind
 call 0 0 0 CreateSafetyRule
 ---- status 6
@@ -105,12 +280,12 @@ call 0 0 0 CreateSafetyRule {"AssertionRule":{"Name":"a","ControlPanelArn":"arn:
 ---- status 6
 script line 1: MissingMember
 
-== an assertion with AssertedControls that is a number
+== an assertion with AssertedControls that are a number
 call 0 0 0 CreateSafetyRule {"AssertionRule":{"Name":"a","ControlPanelArn":"arn:arc:panel/0000000000000001","AssertedControls":1,"RuleConfig":1,"WaitPeriodMs":"x"}}
 ---- status 6
 script line 1: WrongType
 
-== an assertion with AssertedControls that is empty
+== an assertion with AssertedControls that are empty
 call 0 0 0 CreateSafetyRule {"AssertionRule":{"Name":"a","ControlPanelArn":"arn:arc:panel/0000000000000001","AssertedControls":[],"RuleConfig":1,"WaitPeriodMs":"x"}}
 ---- status 6
 script line 1: EmptyEntries
@@ -120,17 +295,17 @@ call 0 0 0 CreateSafetyRule {"AssertionRule":{"Name":"a","ControlPanelArn":"arn:
 ---- status 6
 script line 1: TooManyEntries
 
-== an assertion with AssertedControls that holds null
+== an assertion with AssertedControls that hold null
 call 0 0 0 CreateSafetyRule {"AssertionRule":{"Name":"a","ControlPanelArn":"arn:arc:panel/0000000000000001","AssertedControls":[null],"RuleConfig":1,"WaitPeriodMs":"x"}}
 ---- status 6
 script line 1: WrongType
 
-== an assertion with AssertedControls that holds a panel
+== an assertion with AssertedControls that hold a panel
 call 0 0 0 CreateSafetyRule {"AssertionRule":{"Name":"a","ControlPanelArn":"arn:arc:panel/0000000000000001","AssertedControls":["arn:arc:control/0000000000000001","arn:arc:panel/0000000000000001",1],"RuleConfig":1,"WaitPeriodMs":"x"}}
 ---- status 6
 script line 1: BadId
 
-== an assertion with AssertedControls that holds one control twice
+== an assertion with AssertedControls that hold one control twice
 call 0 0 0 CreateSafetyRule {"AssertionRule":{"Name":"a","ControlPanelArn":"arn:arc:panel/0000000000000001","AssertedControls":["arn:arc:control/0000000000000001","arn:arc:control/0000000000000002","arn:arc:control/0000000000000001"],"RuleConfig":1,"WaitPeriodMs":"x"}}
 ---- status 6
 script line 1: DoubledEntry
@@ -160,7 +335,7 @@ call 0 0 0 CreateSafetyRule {"AssertionRule":{"Name":"a","ControlPanelArn":"arn:
 ---- status 6
 script line 1: MissingMember
 
-== an assertion with WaitPeriodMs that is a text
+== an assertion with WaitPeriodMs that are a text
 call 0 0 0 CreateSafetyRule {"AssertionRule":{"Name":"a","ControlPanelArn":"arn:arc:panel/0000000000000001","AssertedControls":["arn:arc:control/0000000000000001","arn:arc:control/0000000000000002"],"RuleConfig":{"Type":"AND"},"WaitPeriodMs":"0"}}
 ---- status 6
 script line 1: WrongType
@@ -220,12 +395,12 @@ call 0 0 0 CreateSafetyRule {"GatingRule":{"Name":"a","ControlPanelArn":"arn:arc
 ---- status 6
 script line 1: MissingMember
 
-== a gate with GatingControls that is a number
+== a gate with GatingControls that are a number
 call 0 0 0 CreateSafetyRule {"GatingRule":{"Name":"a","ControlPanelArn":"arn:arc:panel/0000000000000001","GatingControls":1,"TargetControls":1,"RuleConfig":1,"WaitPeriodMs":"x"}}
 ---- status 6
 script line 1: WrongType
 
-== a gate with GatingControls that is empty
+== a gate with GatingControls that are empty
 call 0 0 0 CreateSafetyRule {"GatingRule":{"Name":"a","ControlPanelArn":"arn:arc:panel/0000000000000001","GatingControls":[],"TargetControls":1,"RuleConfig":1,"WaitPeriodMs":"x"}}
 ---- status 6
 script line 1: EmptyEntries
@@ -235,17 +410,17 @@ call 0 0 0 CreateSafetyRule {"GatingRule":{"Name":"a","ControlPanelArn":"arn:arc
 ---- status 6
 script line 1: TooManyEntries
 
-== a gate with GatingControls that holds null
+== a gate with GatingControls that hold null
 call 0 0 0 CreateSafetyRule {"GatingRule":{"Name":"a","ControlPanelArn":"arn:arc:panel/0000000000000001","GatingControls":[null],"TargetControls":1,"RuleConfig":1,"WaitPeriodMs":"x"}}
 ---- status 6
 script line 1: WrongType
 
-== a gate with GatingControls that holds a panel
+== a gate with GatingControls that hold a panel
 call 0 0 0 CreateSafetyRule {"GatingRule":{"Name":"a","ControlPanelArn":"arn:arc:panel/0000000000000001","GatingControls":["arn:arc:control/0000000000000001","arn:arc:panel/0000000000000001",1],"TargetControls":1,"RuleConfig":1,"WaitPeriodMs":"x"}}
 ---- status 6
 script line 1: BadId
 
-== a gate with GatingControls that holds one control twice
+== a gate with GatingControls that hold one control twice
 call 0 0 0 CreateSafetyRule {"GatingRule":{"Name":"a","ControlPanelArn":"arn:arc:panel/0000000000000001","GatingControls":["arn:arc:control/0000000000000001","arn:arc:control/0000000000000002","arn:arc:control/0000000000000001"],"TargetControls":1,"RuleConfig":1,"WaitPeriodMs":"x"}}
 ---- status 6
 script line 1: DoubledEntry
@@ -260,12 +435,12 @@ call 0 0 0 CreateSafetyRule {"GatingRule":{"Name":"a","ControlPanelArn":"arn:arc
 ---- status 6
 script line 1: MissingMember
 
-== a gate with TargetControls that is a number
+== a gate with TargetControls that are a number
 call 0 0 0 CreateSafetyRule {"GatingRule":{"Name":"a","ControlPanelArn":"arn:arc:panel/0000000000000001","GatingControls":["arn:arc:control/0000000000000001","arn:arc:control/0000000000000002"],"TargetControls":1,"RuleConfig":1,"WaitPeriodMs":"x"}}
 ---- status 6
 script line 1: WrongType
 
-== a gate with TargetControls that is empty
+== a gate with TargetControls that are empty
 call 0 0 0 CreateSafetyRule {"GatingRule":{"Name":"a","ControlPanelArn":"arn:arc:panel/0000000000000001","GatingControls":["arn:arc:control/0000000000000001","arn:arc:control/0000000000000002"],"TargetControls":[],"RuleConfig":1,"WaitPeriodMs":"x"}}
 ---- status 6
 script line 1: EmptyEntries
@@ -275,17 +450,17 @@ call 0 0 0 CreateSafetyRule {"GatingRule":{"Name":"a","ControlPanelArn":"arn:arc
 ---- status 6
 script line 1: TooManyEntries
 
-== a gate with TargetControls that holds null
+== a gate with TargetControls that hold null
 call 0 0 0 CreateSafetyRule {"GatingRule":{"Name":"a","ControlPanelArn":"arn:arc:panel/0000000000000001","GatingControls":["arn:arc:control/0000000000000001","arn:arc:control/0000000000000002"],"TargetControls":[null],"RuleConfig":1,"WaitPeriodMs":"x"}}
 ---- status 6
 script line 1: WrongType
 
-== a gate with TargetControls that holds a panel
+== a gate with TargetControls that hold a panel
 call 0 0 0 CreateSafetyRule {"GatingRule":{"Name":"a","ControlPanelArn":"arn:arc:panel/0000000000000001","GatingControls":["arn:arc:control/0000000000000001","arn:arc:control/0000000000000002"],"TargetControls":["arn:arc:control/0000000000000001","arn:arc:panel/0000000000000001",1],"RuleConfig":1,"WaitPeriodMs":"x"}}
 ---- status 6
 script line 1: BadId
 
-== a gate with TargetControls that holds one control twice
+== a gate with TargetControls that hold one control twice
 call 0 0 0 CreateSafetyRule {"GatingRule":{"Name":"a","ControlPanelArn":"arn:arc:panel/0000000000000001","GatingControls":["arn:arc:control/0000000000000001","arn:arc:control/0000000000000002"],"TargetControls":["arn:arc:control/0000000000000001","arn:arc:control/0000000000000002","arn:arc:control/0000000000000001"],"RuleConfig":1,"WaitPeriodMs":"x"}}
 ---- status 6
 script line 1: DoubledEntry
@@ -315,7 +490,7 @@ call 0 0 0 CreateSafetyRule {"GatingRule":{"Name":"a","ControlPanelArn":"arn:arc
 ---- status 6
 script line 1: MissingMember
 
-== a gate with WaitPeriodMs that is a text
+== a gate with WaitPeriodMs that are a text
 call 0 0 0 CreateSafetyRule {"GatingRule":{"Name":"a","ControlPanelArn":"arn:arc:panel/0000000000000001","GatingControls":["arn:arc:control/0000000000000001","arn:arc:control/0000000000000002"],"TargetControls":["arn:arc:control/0000000000000001","arn:arc:control/0000000000000002"],"RuleConfig":{"Type":"AND"},"WaitPeriodMs":"0"}}
 ---- status 6
 script line 1: WrongType
@@ -375,7 +550,7 @@ call 0 0 0 UpdateSafetyRule {"AssertionRuleUpdate":{"SafetyRuleArn":"arn:arc:rul
 ---- status 6
 script line 1: MissingMember
 
-== an update of an assertion with WaitPeriodMs that is a text
+== an update of an assertion with WaitPeriodMs that are a text
 call 0 0 0 UpdateSafetyRule {"AssertionRuleUpdate":{"SafetyRuleArn":"arn:arc:rule/0000000000000001","Name":"a","WaitPeriodMs":"0"}}
 ---- status 6
 script line 1: WrongType
@@ -435,7 +610,7 @@ call 0 0 0 UpdateSafetyRule {"GatingRuleUpdate":{"SafetyRuleArn":"arn:arc:rule/0
 ---- status 6
 script line 1: MissingMember
 
-== an update of a gate with WaitPeriodMs that is a text
+== an update of a gate with WaitPeriodMs that are a text
 call 0 0 0 UpdateSafetyRule {"GatingRuleUpdate":{"SafetyRuleArn":"arn:arc:rule/0000000000000001","Name":"a","WaitPeriodMs":"0"}}
 ---- status 6
 script line 1: WrongType
@@ -619,178 +794,3 @@ script line 1: WrongType
 call 0 0 0 ListSafetyRules {"ControlPanelArn":"arn:arc:rule/0000000000000001"}
 ---- status 6
 script line 1: BadId
-
-== AND ignores a threshold, however great it is
-new 0 0 0 a
-new 0 0 0 b
-batch 0 0 0 1=On,2=On -
-call 0 0 0 CreateSafetyRule {"AssertionRule":{"Name":"a","ControlPanelArn":"arn:arc:panel/0000000000000001","AssertedControls":["arn:arc:control/0000000000000001","arn:arc:control/0000000000000002"],"RuleConfig":{"Type":"AND","Threshold":18446744073709551615},"WaitPeriodMs":0}}
-set 0 0 0 1 Off
-----
-slot 0 token 1 200 {"RoutingControl":{"ControlPanelArn":"arn:arc:panel/0000000000000001","Name":"a","RoutingControlArn":"arn:arc:control/0000000000000001"}}
-slot 1 token 2 200 {"RoutingControl":{"ControlPanelArn":"arn:arc:panel/0000000000000001","Name":"b","RoutingControlArn":"arn:arc:control/0000000000000002"}}
-slot 2 token 3 200 {}
-slot 3 token 4 200 {"SafetyRuleArn":"arn:arc:rule/0000000000000001"}
-slot 4 token 5 409 {"Reason":"Forbidden","Rules":[{"Cause":"AssertFalse","SafetyRuleArn":"arn:arc:rule/0000000000000001"}],"__type":"ConflictException"}
-
-== OR ignores a threshold, so that one control is enough
-new 0 0 0 a
-new 0 0 0 b
-batch 0 0 0 1=On,2=On -
-call 0 0 0 CreateSafetyRule {"AssertionRule":{"Name":"a","ControlPanelArn":"arn:arc:panel/0000000000000001","AssertedControls":["arn:arc:control/0000000000000001","arn:arc:control/0000000000000002"],"RuleConfig":{"Type":"OR","Threshold":2},"WaitPeriodMs":0}}
-set 0 0 0 1 Off
-set 0 0 0 2 Off
-----
-slot 0 token 1 200 {"RoutingControl":{"ControlPanelArn":"arn:arc:panel/0000000000000001","Name":"a","RoutingControlArn":"arn:arc:control/0000000000000001"}}
-slot 1 token 2 200 {"RoutingControl":{"ControlPanelArn":"arn:arc:panel/0000000000000001","Name":"b","RoutingControlArn":"arn:arc:control/0000000000000002"}}
-slot 2 token 3 200 {}
-slot 3 token 4 200 {"SafetyRuleArn":"arn:arc:rule/0000000000000001"}
-slot 4 token 5 200 {}
-slot 5 token 6 409 {"Reason":"Forbidden","Rules":[{"Cause":"AssertFalse","SafetyRuleArn":"arn:arc:rule/0000000000000001"}],"__type":"ConflictException"}
-
-== ATLEAST takes its threshold
-new 0 0 0 a
-new 0 0 0 b
-batch 0 0 0 1=On,2=On -
-call 0 0 0 CreateSafetyRule {"AssertionRule":{"Name":"a","ControlPanelArn":"arn:arc:panel/0000000000000001","AssertedControls":["arn:arc:control/0000000000000001","arn:arc:control/0000000000000002"],"RuleConfig":{"Type":"ATLEAST","Threshold":2},"WaitPeriodMs":0}}
-set 0 0 0 1 Off
-----
-slot 0 token 1 200 {"RoutingControl":{"ControlPanelArn":"arn:arc:panel/0000000000000001","Name":"a","RoutingControlArn":"arn:arc:control/0000000000000001"}}
-slot 1 token 2 200 {"RoutingControl":{"ControlPanelArn":"arn:arc:panel/0000000000000001","Name":"b","RoutingControlArn":"arn:arc:control/0000000000000002"}}
-slot 2 token 3 200 {}
-slot 3 token 4 200 {"SafetyRuleArn":"arn:arc:rule/0000000000000001"}
-slot 4 token 5 409 {"Reason":"Forbidden","Rules":[{"Cause":"AssertFalse","SafetyRuleArn":"arn:arc:rule/0000000000000001"}],"__type":"ConflictException"}
-
-== a rule isn't inverted where nothing is given
-new 0 0 0 a
-new 0 0 0 b
-call 0 0 0 CreateSafetyRule {"AssertionRule":{"Name":"a","ControlPanelArn":"arn:arc:panel/0000000000000001","AssertedControls":["arn:arc:control/0000000000000001","arn:arc:control/0000000000000002"],"RuleConfig":{"Type":"OR"},"WaitPeriodMs":0}}
-set 0 0 0 1 On
-----
-slot 0 token 1 200 {"RoutingControl":{"ControlPanelArn":"arn:arc:panel/0000000000000001","Name":"a","RoutingControlArn":"arn:arc:control/0000000000000001"}}
-slot 1 token 2 200 {"RoutingControl":{"ControlPanelArn":"arn:arc:panel/0000000000000001","Name":"b","RoutingControlArn":"arn:arc:control/0000000000000002"}}
-slot 2 token 3 200 {"SafetyRuleArn":"arn:arc:rule/0000000000000001"}
-slot 3 token 4 200 {}
-
-== a rule isn't inverted where null is given
-new 0 0 0 a
-new 0 0 0 b
-call 0 0 0 CreateSafetyRule {"AssertionRule":{"Name":"a","ControlPanelArn":"arn:arc:panel/0000000000000001","AssertedControls":["arn:arc:control/0000000000000001","arn:arc:control/0000000000000002"],"RuleConfig":{"Type":"OR","Inverted":null},"WaitPeriodMs":0}}
-set 0 0 0 1 On
-----
-slot 0 token 1 200 {"RoutingControl":{"ControlPanelArn":"arn:arc:panel/0000000000000001","Name":"a","RoutingControlArn":"arn:arc:control/0000000000000001"}}
-slot 1 token 2 200 {"RoutingControl":{"ControlPanelArn":"arn:arc:panel/0000000000000001","Name":"b","RoutingControlArn":"arn:arc:control/0000000000000002"}}
-slot 2 token 3 200 {"SafetyRuleArn":"arn:arc:rule/0000000000000001"}
-slot 3 token 4 200 {}
-
-== a rule isn't inverted where false is given
-new 0 0 0 a
-new 0 0 0 b
-call 0 0 0 CreateSafetyRule {"AssertionRule":{"Name":"a","ControlPanelArn":"arn:arc:panel/0000000000000001","AssertedControls":["arn:arc:control/0000000000000001","arn:arc:control/0000000000000002"],"RuleConfig":{"Type":"OR","Inverted":false},"WaitPeriodMs":0}}
-set 0 0 0 1 On
-----
-slot 0 token 1 200 {"RoutingControl":{"ControlPanelArn":"arn:arc:panel/0000000000000001","Name":"a","RoutingControlArn":"arn:arc:control/0000000000000001"}}
-slot 1 token 2 200 {"RoutingControl":{"ControlPanelArn":"arn:arc:panel/0000000000000001","Name":"b","RoutingControlArn":"arn:arc:control/0000000000000002"}}
-slot 2 token 3 200 {"SafetyRuleArn":"arn:arc:rule/0000000000000001"}
-slot 3 token 4 200 {}
-
-== a rule is inverted where true is given
-new 0 0 0 a
-new 0 0 0 b
-call 0 0 0 CreateSafetyRule {"AssertionRule":{"Name":"a","ControlPanelArn":"arn:arc:panel/0000000000000001","AssertedControls":["arn:arc:control/0000000000000001","arn:arc:control/0000000000000002"],"RuleConfig":{"Type":"OR","Inverted":true},"WaitPeriodMs":0}}
-set 0 0 0 1 On
-----
-slot 0 token 1 200 {"RoutingControl":{"ControlPanelArn":"arn:arc:panel/0000000000000001","Name":"a","RoutingControlArn":"arn:arc:control/0000000000000001"}}
-slot 1 token 2 200 {"RoutingControl":{"ControlPanelArn":"arn:arc:panel/0000000000000001","Name":"b","RoutingControlArn":"arn:arc:control/0000000000000002"}}
-slot 2 token 3 200 {"SafetyRuleArn":"arn:arc:rule/0000000000000001"}
-slot 3 token 4 409 {"Reason":"Forbidden","Rules":[{"Cause":"AssertFalse","SafetyRuleArn":"arn:arc:rule/0000000000000001"}],"__type":"ConflictException"}
-
-== a gate takes its gating controls, its targets, its threshold and its inversion
-new 0 0 0 a
-new 0 0 0 b
-new 0 0 0 c
-call 0 0 0 CreateSafetyRule {"GatingRule":{"Name":"a","ControlPanelArn":"arn:arc:panel/0000000000000001","GatingControls":["arn:arc:control/0000000000000002","arn:arc:control/0000000000000001"],"TargetControls":["arn:arc:control/0000000000000003"],"RuleConfig":{"Type":"ATLEAST","Threshold":2,"Inverted":true},"WaitPeriodMs":0}}
-batch 0 0 0 1=On,2=On -
-set 0 0 0 3 On
-set 0 0 0 1 Off
-set 0 0 0 3 On
-----
-slot 0 token 1 200 {"RoutingControl":{"ControlPanelArn":"arn:arc:panel/0000000000000001","Name":"a","RoutingControlArn":"arn:arc:control/0000000000000001"}}
-slot 1 token 2 200 {"RoutingControl":{"ControlPanelArn":"arn:arc:panel/0000000000000001","Name":"b","RoutingControlArn":"arn:arc:control/0000000000000002"}}
-slot 2 token 3 200 {"RoutingControl":{"ControlPanelArn":"arn:arc:panel/0000000000000001","Name":"c","RoutingControlArn":"arn:arc:control/0000000000000003"}}
-slot 3 token 4 200 {"SafetyRuleArn":"arn:arc:rule/0000000000000001"}
-slot 4 token 5 200 {}
-slot 5 token 6 409 {"Reason":"Forbidden","Rules":[{"Cause":"GateClosed","SafetyRuleArn":"arn:arc:rule/0000000000000001"}],"__type":"ConflictException"}
-slot 6 token 7 200 {}
-slot 7 token 8 200 {}
-
-== rules take their names, kinds and waits
-new 0 0 0 a
-new 0 0 0 b
-call 0 0 0 CreateSafetyRule {"AssertionRule":{"Name":"xxxxxxxxxxxxxxxxxxxxxxxxxxxxxxxxxxxxxxxxxxxxxxxxxxxxxxxxxxxxxxxx","ControlPanelArn":"arn:arc:panel/0000000000000001","AssertedControls":["arn:arc:control/0000000000000001","arn:arc:control/0000000000000002"],"RuleConfig":{"Type":"AND"},"WaitPeriodMs":604800000}}
-call 0 0 0 CreateSafetyRule {"GatingRule":{"Name":"g","ControlPanelArn":"arn:arc:panel/0000000000000001","GatingControls":["arn:arc:control/0000000000000001"],"TargetControls":["arn:arc:control/0000000000000002"],"RuleConfig":{"Type":"AND"},"WaitPeriodMs":0}}
-call 0 0 0 ListSafetyRules {"ControlPanelArn":"arn:arc:panel/0000000000000001"}
-----
-slot 0 token 1 200 {"RoutingControl":{"ControlPanelArn":"arn:arc:panel/0000000000000001","Name":"a","RoutingControlArn":"arn:arc:control/0000000000000001"}}
-slot 1 token 2 200 {"RoutingControl":{"ControlPanelArn":"arn:arc:panel/0000000000000001","Name":"b","RoutingControlArn":"arn:arc:control/0000000000000002"}}
-slot 2 token 3 200 {"SafetyRuleArn":"arn:arc:rule/0000000000000001"}
-slot 3 token 4 200 {"SafetyRuleArn":"arn:arc:rule/0000000000000002"}
-slot 4 token 5 200 {"SafetyRules":[{"Name":"xxxxxxxxxxxxxxxxxxxxxxxxxxxxxxxxxxxxxxxxxxxxxxxxxxxxxxxxxxxxxxxx","SafetyRuleArn":"arn:arc:rule/0000000000000001","Type":"ASSERTION","WaitPeriodMs":604800000},{"Name":"g","SafetyRuleArn":"arn:arc:rule/0000000000000002","Type":"GATING","WaitPeriodMs":0}]}
-
-== an update gives a rule another name and wait
-new 0 0 0 a
-new 0 0 0 b
-assert 0 0 0 r AND 5 1
-gate 0 0 0 g AND 6 1 2
-call 0 0 0 UpdateSafetyRule {"GatingRuleUpdate":{"SafetyRuleArn":"arn:arc:rule/0000000000000002","Name":"b","WaitPeriodMs":7}}
-call 0 0 0 UpdateSafetyRule {"AssertionRuleUpdate":{"SafetyRuleArn":"arn:arc:rule/0000000000000001","Name":"a","WaitPeriodMs":604800000}}
-call 0 0 0 ListSafetyRules {"ControlPanelArn":"arn:arc:panel/0000000000000001"}
-----
-slot 0 token 1 200 {"RoutingControl":{"ControlPanelArn":"arn:arc:panel/0000000000000001","Name":"a","RoutingControlArn":"arn:arc:control/0000000000000001"}}
-slot 1 token 2 200 {"RoutingControl":{"ControlPanelArn":"arn:arc:panel/0000000000000001","Name":"b","RoutingControlArn":"arn:arc:control/0000000000000002"}}
-slot 2 token 3 200 {"SafetyRuleArn":"arn:arc:rule/0000000000000001"}
-slot 3 token 4 200 {"SafetyRuleArn":"arn:arc:rule/0000000000000002"}
-slot 4 token 5 200 {}
-slot 5 token 6 200 {}
-slot 6 token 7 200 {"SafetyRules":[{"Name":"a","SafetyRuleArn":"arn:arc:rule/0000000000000001","Type":"ASSERTION","WaitPeriodMs":604800000},{"Name":"b","SafetyRuleArn":"arn:arc:rule/0000000000000002","Type":"GATING","WaitPeriodMs":7}]}
-
-== an update tells the kind of its rule
-new 0 0 0 a
-new 0 0 0 b
-assert 0 0 0 r AND 5 1
-call 0 0 0 UpdateSafetyRule {"GatingRuleUpdate":{"SafetyRuleArn":"arn:arc:rule/0000000000000001","Name":"b","WaitPeriodMs":7}}
-----
-slot 0 token 1 200 {"RoutingControl":{"ControlPanelArn":"arn:arc:panel/0000000000000001","Name":"a","RoutingControlArn":"arn:arc:control/0000000000000001"}}
-slot 1 token 2 200 {"RoutingControl":{"ControlPanelArn":"arn:arc:panel/0000000000000001","Name":"b","RoutingControlArn":"arn:arc:control/0000000000000002"}}
-slot 2 token 3 200 {"SafetyRuleArn":"arn:arc:rule/0000000000000001"}
-slot 3 token 4 404 {"Reason":"NotFound","Resource":"arn:arc:rule/0000000000000001","__type":"ResourceNotFoundException"}
-
-== a rule is deleted
-new 0 0 0 a
-assert 0 0 0 r AND 0 1
-call 0 0 0 DeleteSafetyRule {"SafetyRuleArn":"arn:arc:rule/0000000000000001"}
-call 0 0 0 ListSafetyRules {"ControlPanelArn":"arn:arc:panel/0000000000000001"}
-----
-slot 0 token 1 200 {"RoutingControl":{"ControlPanelArn":"arn:arc:panel/0000000000000001","Name":"a","RoutingControlArn":"arn:arc:control/0000000000000001"}}
-slot 1 token 2 200 {"SafetyRuleArn":"arn:arc:rule/0000000000000001"}
-slot 2 token 3 200 {}
-slot 3 token 4 200 {"SafetyRules":[]}
-
-== a rule is made in the panel that is given
-call 0 0 0 CreateSafetyRule {"AssertionRule":{"Name":"a","ControlPanelArn":"arn:arc:panel/0000000000000002","AssertedControls":["arn:arc:control/0000000000000001"],"RuleConfig":{"Type":"AND"},"WaitPeriodMs":0}}
-----
-slot 0 token 1 404 {"Reason":"NotFound","Resource":"arn:arc:panel/0000000000000002","__type":"ResourceNotFoundException"}
-
-== the first control in the order of the lists that the panel lacks is told
-new 0 0 0 a
-call 0 0 0 CreateSafetyRule {"GatingRule":{"Name":"a","ControlPanelArn":"arn:arc:panel/0000000000000001","GatingControls":["arn:arc:control/0000000000000001","arn:arc:control/0000000000000009"],"TargetControls":["arn:arc:control/0000000000000008"],"RuleConfig":{"Type":"AND"},"WaitPeriodMs":0}}
-call 0 0 0 CreateSafetyRule {"GatingRule":{"Name":"a","ControlPanelArn":"arn:arc:panel/0000000000000001","GatingControls":["arn:arc:control/0000000000000001"],"TargetControls":["arn:arc:control/0000000000000008","arn:arc:control/0000000000000007"],"RuleConfig":{"Type":"AND"},"WaitPeriodMs":0}}
-----
-slot 0 token 1 200 {"RoutingControl":{"ControlPanelArn":"arn:arc:panel/0000000000000001","Name":"a","RoutingControlArn":"arn:arc:control/0000000000000001"}}
-slot 1 token 2 404 {"Reason":"NotFound","Resource":"arn:arc:control/0000000000000009","__type":"ResourceNotFoundException"}
-slot 2 token 3 404 {"Reason":"NotFound","Resource":"arn:arc:control/0000000000000008","__type":"ResourceNotFoundException"}
-
-== the largest rule
-call 0 0 0 CreateSafetyRule {"GatingRule":{"Name":"xxxxxxxxxxxxxxxxxxxxxxxxxxxxxxxxxxxxxxxxxxxxxxxxxxxxxxxxxxxxxxxx","ControlPanelArn":"arn:arc:panel/0000000000000001","GatingControls":["arn:arc:control/0000000000000001","arn:arc:control/0000000000000002","arn:arc:control/0000000000000003","arn:arc:control/0000000000000004","arn:arc:control/0000000000000005","arn:arc:control/0000000000000006","arn:arc:control/0000000000000007","arn:arc:control/0000000000000008","arn:arc:control/0000000000000009","arn:arc:control/000000000000000a","arn:arc:control/000000000000000b","arn:arc:control/000000000000000c","arn:arc:control/000000000000000d","arn:arc:control/000000000000000e","arn:arc:control/000000000000000f","arn:arc:control/0000000000000010","arn:arc:control/0000000000000011","arn:arc:control/0000000000000012","arn:arc:control/0000000000000013","arn:arc:control/0000000000000014","arn:arc:control/0000000000000015","arn:arc:control/0000000000000016","arn:arc:control/0000000000000017","arn:arc:control/0000000000000018","arn:arc:control/0000000000000019","arn:arc:control/000000000000001a","arn:arc:control/000000000000001b","arn:arc:control/000000000000001c","arn:arc:control/000000000000001d","arn:arc:control/000000000000001e","arn:arc:control/000000000000001f","arn:arc:control/0000000000000020"],"TargetControls":["arn:arc:control/0000000000000001","arn:arc:control/0000000000000002","arn:arc:control/0000000000000003","arn:arc:control/0000000000000004","arn:arc:control/0000000000000005","arn:arc:control/0000000000000006","arn:arc:control/0000000000000007","arn:arc:control/0000000000000008","arn:arc:control/0000000000000009","arn:arc:control/000000000000000a","arn:arc:control/000000000000000b","arn:arc:control/000000000000000c","arn:arc:control/000000000000000d","arn:arc:control/000000000000000e","arn:arc:control/000000000000000f","arn:arc:control/0000000000000010","arn:arc:control/0000000000000011","arn:arc:control/0000000000000012","arn:arc:control/0000000000000013","arn:arc:control/0000000000000014","arn:arc:control/0000000000000015","arn:arc:control/0000000000000016","arn:arc:control/0000000000000017","arn:arc:control/0000000000000018","arn:arc:control/0000000000000019","arn:arc:control/000000000000001a","arn:arc:control/000000000000001b","arn:arc:control/000000000000001c","arn:arc:control/000000000000001d","arn:arc:control/000000000000001e","arn:arc:control/000000000000001f","arn:arc:control/0000000000000020"],"RuleConfig":{"Type":"ATLEAST","Threshold":32},"WaitPeriodMs":604800000}}
-----
-slot 0 token 1 404 {"Reason":"NotFound","Resource":"arn:arc:control/0000000000000001","__type":"ResourceNotFoundException"}

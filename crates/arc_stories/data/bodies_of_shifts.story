@@ -1,5 +1,89 @@
 # The bodies of managed resources and zonal shifts.
 
+== a resource has its name and its zones
+call 0 0 0 RegisterManagedResource {"name":"xxxxxxxxxxxxxxxxxxxxxxxxxxxxxxxxxxxxxxxxxxxxxxxxxxxxxxxxxxxxxxxx","availabilityZones":["z","zzzzzzzzzzzzzzzzzzzzzzzzzzzzzzzz"]}
+call 0 0 0 RegisterManagedResource {"name":"s","availabilityZones":["üüüüüüüüüüüüüüüü"]}
+call 0 0 0 GetManagedResource {"resourceIdentifier":"arn:arc:resource/0000000000000001"}
+call 0 0 0 GetManagedResource {"resourceIdentifier":"arn:arc:resource/0000000000000002"}
+call 0 0 0 ListManagedResources
+----
+slot 0 token 1 200 {"resourceIdentifier":"arn:arc:resource/0000000000000001"}
+slot 1 token 2 200 {"resourceIdentifier":"arn:arc:resource/0000000000000002"}
+slot 2 token 3 200 {"appliedShift":null,"availabilityZones":["z","zzzzzzzzzzzzzzzzzzzzzzzzzzzzzzzz"],"name":"xxxxxxxxxxxxxxxxxxxxxxxxxxxxxxxxxxxxxxxxxxxxxxxxxxxxxxxxxxxxxxxx","resourceIdentifier":"arn:arc:resource/0000000000000001","zonalAutoshiftStatus":"DISABLED"}
+slot 3 token 4 200 {"appliedShift":null,"availabilityZones":["üüüüüüüüüüüüüüüü"],"name":"s","resourceIdentifier":"arn:arc:resource/0000000000000002","zonalAutoshiftStatus":"DISABLED"}
+slot 4 token 5 200 {"items":[{"name":"xxxxxxxxxxxxxxxxxxxxxxxxxxxxxxxxxxxxxxxxxxxxxxxxxxxxxxxxxxxxxxxx","resourceIdentifier":"arn:arc:resource/0000000000000001"},{"name":"s","resourceIdentifier":"arn:arc:resource/0000000000000002"}]}
+
+== a resource may have six zones, which keep their order
+call 0 0 0 RegisterManagedResource {"name":"r","availabilityZones":["f","e","d","c","b","a"]}
+call 0 0 0 GetManagedResource {"resourceIdentifier":"arn:arc:resource/0000000000000001"}
+----
+slot 0 token 1 200 {"resourceIdentifier":"arn:arc:resource/0000000000000001"}
+slot 1 token 2 200 {"appliedShift":null,"availabilityZones":["f","e","d","c","b","a"],"name":"r","resourceIdentifier":"arn:arc:resource/0000000000000001","zonalAutoshiftStatus":"DISABLED"}
+
+== a comment has up to 128 bytes
+call 0 0 0 RegisterManagedResource {"name":"r","availabilityZones":["z"]}
+call 0 0 0 StartZonalShift {"resourceIdentifier":"arn:arc:resource/0000000000000001","awayFrom":"z","expiresIn":"1m","comment":"cccccccccccccccccccccccccccccccccccccccccccccccccccccccccccccccccccccccccccccccccccccccccccccccccccccccccccccccccccccccccccccccc"}
+call 0 0 0 UpdateZonalShift {"zonalShiftId":"00000000-0000-0000-0000-000000000001","comment":"üüüüüüüüüüüüüüüüüüüüüüüüüüüüüüüüüüüüüüüüüüüüüüüüüüüüüüüüüüüüüüüü"}
+call 0 0 0 UpdateZonalShift {"zonalShiftId":"00000000-0000-0000-0000-000000000001","comment":""}
+----
+slot 0 token 1 200 {"resourceIdentifier":"arn:arc:resource/0000000000000001"}
+slot 1 token 2 200 {"awayFrom":"z","comment":"cccccccccccccccccccccccccccccccccccccccccccccccccccccccccccccccccccccccccccccccccccccccccccccccccccccccccccccccccccccccccccccccc","expiryTime":60000,"resourceIdentifier":"arn:arc:resource/0000000000000001","startTime":0,"status":"ACTIVE","zonalShiftId":"00000000-0000-0000-0000-000000000001"}
+slot 2 token 3 200 {"awayFrom":"z","comment":"üüüüüüüüüüüüüüüüüüüüüüüüüüüüüüüüüüüüüüüüüüüüüüüüüüüüüüüüüüüüüüüü","expiryTime":60000,"resourceIdentifier":"arn:arc:resource/0000000000000001","startTime":0,"status":"ACTIVE","zonalShiftId":"00000000-0000-0000-0000-000000000001"}
+slot 3 token 4 200 {"awayFrom":"z","comment":"","expiryTime":60000,"resourceIdentifier":"arn:arc:resource/0000000000000001","startTime":0,"status":"ACTIVE","zonalShiftId":"00000000-0000-0000-0000-000000000001"}
+
+== a shift keeps what an update doesn't give
+call 0 0 0 RegisterManagedResource {"name":"r","availabilityZones":["z"]}
+call 0 0 0 StartZonalShift {"resourceIdentifier":"arn:arc:resource/0000000000000001","awayFrom":"z","expiresIn":"1m","comment":"a"}
+call 0 1 0 UpdateZonalShift {"zonalShiftId":"00000000-0000-0000-0000-000000000001"}
+call 0 2 0 UpdateZonalShift {"zonalShiftId":"00000000-0000-0000-0000-000000000001","comment":null,"expiresIn":null}
+call 0 3 0 UpdateZonalShift {"zonalShiftId":"00000000-0000-0000-0000-000000000001","comment":"b"}
+call 0 4 0 UpdateZonalShift {"zonalShiftId":"00000000-0000-0000-0000-000000000001","expiresIn":"1h"}
+call 0 5 0 UpdateZonalShift {"zonalShiftId":"00000000-0000-0000-0000-000000000001","comment":"","expiresIn":"90m"}
+----
+slot 0 token 1 200 {"resourceIdentifier":"arn:arc:resource/0000000000000001"}
+slot 1 token 2 200 {"awayFrom":"z","comment":"a","expiryTime":60000,"resourceIdentifier":"arn:arc:resource/0000000000000001","startTime":0,"status":"ACTIVE","zonalShiftId":"00000000-0000-0000-0000-000000000001"}
+slot 2 token 3 200 {"awayFrom":"z","comment":"a","expiryTime":60000,"resourceIdentifier":"arn:arc:resource/0000000000000001","startTime":0,"status":"ACTIVE","zonalShiftId":"00000000-0000-0000-0000-000000000001"}
+slot 3 token 4 200 {"awayFrom":"z","comment":"a","expiryTime":60000,"resourceIdentifier":"arn:arc:resource/0000000000000001","startTime":0,"status":"ACTIVE","zonalShiftId":"00000000-0000-0000-0000-000000000001"}
+slot 4 token 5 200 {"awayFrom":"z","comment":"b","expiryTime":60000,"resourceIdentifier":"arn:arc:resource/0000000000000001","startTime":0,"status":"ACTIVE","zonalShiftId":"00000000-0000-0000-0000-000000000001"}
+slot 5 token 6 200 {"awayFrom":"z","comment":"b","expiryTime":3600004,"resourceIdentifier":"arn:arc:resource/0000000000000001","startTime":0,"status":"ACTIVE","zonalShiftId":"00000000-0000-0000-0000-000000000001"}
+slot 6 token 7 200 {"awayFrom":"z","comment":"","expiryTime":5400005,"resourceIdentifier":"arn:arc:resource/0000000000000001","startTime":0,"status":"ACTIVE","zonalShiftId":"00000000-0000-0000-0000-000000000001"}
+
+== a shift is cancelled
+call 0 0 0 RegisterManagedResource {"name":"r","availabilityZones":["z"]}
+call 0 0 0 StartZonalShift {"resourceIdentifier":"arn:arc:resource/0000000000000001","awayFrom":"z","expiresIn":"1m","comment":""}
+call 0 1 0 CancelZonalShift {"zonalShiftId":"00000000-0000-0000-0000-000000000001"}
+----
+slot 0 token 1 200 {"resourceIdentifier":"arn:arc:resource/0000000000000001"}
+slot 1 token 2 200 {"awayFrom":"z","comment":"","expiryTime":60000,"resourceIdentifier":"arn:arc:resource/0000000000000001","startTime":0,"status":"ACTIVE","zonalShiftId":"00000000-0000-0000-0000-000000000001"}
+slot 2 token 3 200 {"awayFrom":"z","comment":"","expiryTime":60000,"resourceIdentifier":"arn:arc:resource/0000000000000001","startTime":0,"status":"CANCELED","zonalShiftId":"00000000-0000-0000-0000-000000000001"}
+
+== shifts are listed by resource and by status
+call 0 0 0 RegisterManagedResource {"name":"r","availabilityZones":["z"]}
+call 0 0 0 RegisterManagedResource {"name":"s","availabilityZones":["z"]}
+call 0 0 0 StartZonalShift {"resourceIdentifier":"arn:arc:resource/0000000000000001","awayFrom":"z","expiresIn":"1m","comment":""}
+call 0 1 0 CancelZonalShift {"zonalShiftId":"00000000-0000-0000-0000-000000000001"}
+call 0 1 0 StartZonalShift {"resourceIdentifier":"arn:arc:resource/0000000000000001","awayFrom":"z","expiresIn":"1m","comment":""}
+call 0 1 0 StartZonalShift {"resourceIdentifier":"arn:arc:resource/0000000000000002","awayFrom":"z","expiresIn":"2h","comment":""}
+call 0 60001 0 ListZonalShifts
+call 0 0 0 ListZonalShifts {"resourceIdentifier":"arn:arc:resource/0000000000000001"}
+call 0 0 0 ListZonalShifts {"resourceIdentifier":null,"status":"ACTIVE"}
+call 0 0 0 ListZonalShifts {"status":"EXPIRED"}
+call 0 0 0 ListZonalShifts {"status":"CANCELED","resourceIdentifier":"arn:arc:resource/0000000000000001"}
+call 0 0 0 ListZonalShifts {"resourceIdentifier":"arn:arc:resource/0000000000000002","status":"CANCELED"}
+----
+slot 0 token 1 200 {"resourceIdentifier":"arn:arc:resource/0000000000000001"}
+slot 1 token 2 200 {"resourceIdentifier":"arn:arc:resource/0000000000000002"}
+slot 2 token 3 200 {"awayFrom":"z","comment":"","expiryTime":60000,"resourceIdentifier":"arn:arc:resource/0000000000000001","startTime":0,"status":"ACTIVE","zonalShiftId":"00000000-0000-0000-0000-000000000001"}
+slot 3 token 4 200 {"awayFrom":"z","comment":"","expiryTime":60000,"resourceIdentifier":"arn:arc:resource/0000000000000001","startTime":0,"status":"CANCELED","zonalShiftId":"00000000-0000-0000-0000-000000000001"}
+slot 4 token 5 200 {"awayFrom":"z","comment":"","expiryTime":60001,"resourceIdentifier":"arn:arc:resource/0000000000000001","startTime":1,"status":"ACTIVE","zonalShiftId":"00000000-0000-0000-0000-000000000002"}
+slot 5 token 6 200 {"awayFrom":"z","comment":"","expiryTime":7200001,"resourceIdentifier":"arn:arc:resource/0000000000000002","startTime":1,"status":"ACTIVE","zonalShiftId":"00000000-0000-0000-0000-000000000003"}
+slot 6 token 7 200 {"items":[{"awayFrom":"z","comment":"","expiryTime":60000,"resourceIdentifier":"arn:arc:resource/0000000000000001","startTime":0,"status":"CANCELED","zonalShiftId":"00000000-0000-0000-0000-000000000001"},{"awayFrom":"z","comment":"","expiryTime":60001,"resourceIdentifier":"arn:arc:resource/0000000000000001","startTime":1,"status":"EXPIRED","zonalShiftId":"00000000-0000-0000-0000-000000000002"},{"awayFrom":"z","comment":"","expiryTime":7200001,"resourceIdentifier":"arn:arc:resource/0000000000000002","startTime":1,"status":"ACTIVE","zonalShiftId":"00000000-0000-0000-0000-000000000003"}]}
+slot 7 token 8 200 {"items":[{"awayFrom":"z","comment":"","expiryTime":60000,"resourceIdentifier":"arn:arc:resource/0000000000000001","startTime":0,"status":"CANCELED","zonalShiftId":"00000000-0000-0000-0000-000000000001"},{"awayFrom":"z","comment":"","expiryTime":60001,"resourceIdentifier":"arn:arc:resource/0000000000000001","startTime":1,"status":"EXPIRED","zonalShiftId":"00000000-0000-0000-0000-000000000002"}]}
+slot 8 token 9 200 {"items":[{"awayFrom":"z","comment":"","expiryTime":7200001,"resourceIdentifier":"arn:arc:resource/0000000000000002","startTime":1,"status":"ACTIVE","zonalShiftId":"00000000-0000-0000-0000-000000000003"}]}
+slot 9 token 10 200 {"items":[{"awayFrom":"z","comment":"","expiryTime":60001,"resourceIdentifier":"arn:arc:resource/0000000000000001","startTime":1,"status":"EXPIRED","zonalShiftId":"00000000-0000-0000-0000-000000000002"}]}
+slot 10 token 11 200 {"items":[{"awayFrom":"z","comment":"","expiryTime":60000,"resourceIdentifier":"arn:arc:resource/0000000000000001","startTime":0,"status":"CANCELED","zonalShiftId":"00000000-0000-0000-0000-000000000001"}]}
+slot 11 token 12 200 {"items":[]}
+
 == RegisterManagedResource without name
 call 0 0 0 RegisterManagedResource {"availabilityZones":1}
 ---- status 6
@@ -25,7 +109,7 @@ call 0 0 0 RegisterManagedResource {"name":"a"}
 ---- status 6
 script line 1: MissingMember
 
-== RegisterManagedResource with availabilityZones that is a number
+== RegisterManagedResource with availabilityZones that are a number
 call 0 0 0 RegisterManagedResource {"name":"a","availabilityZones":1}
 ---- status 6
 script line 1: WrongType
@@ -254,87 +338,3 @@ script line 1: BadStatus
 call 0 0 0 ListZonalShifts {"resourceIdentifier":"arn:arc:resource/0000000000000001","status":""}
 ---- status 6
 script line 1: BadStatus
-
-== a resource has its name and its zones
-call 0 0 0 RegisterManagedResource {"name":"xxxxxxxxxxxxxxxxxxxxxxxxxxxxxxxxxxxxxxxxxxxxxxxxxxxxxxxxxxxxxxxx","availabilityZones":["z","zzzzzzzzzzzzzzzzzzzzzzzzzzzzzzzz"]}
-call 0 0 0 RegisterManagedResource {"name":"s","availabilityZones":["üüüüüüüüüüüüüüüü"]}
-call 0 0 0 GetManagedResource {"resourceIdentifier":"arn:arc:resource/0000000000000001"}
-call 0 0 0 GetManagedResource {"resourceIdentifier":"arn:arc:resource/0000000000000002"}
-call 0 0 0 ListManagedResources
-----
-slot 0 token 1 200 {"resourceIdentifier":"arn:arc:resource/0000000000000001"}
-slot 1 token 2 200 {"resourceIdentifier":"arn:arc:resource/0000000000000002"}
-slot 2 token 3 200 {"appliedShift":null,"availabilityZones":["z","zzzzzzzzzzzzzzzzzzzzzzzzzzzzzzzz"],"name":"xxxxxxxxxxxxxxxxxxxxxxxxxxxxxxxxxxxxxxxxxxxxxxxxxxxxxxxxxxxxxxxx","resourceIdentifier":"arn:arc:resource/0000000000000001","zonalAutoshiftStatus":"DISABLED"}
-slot 3 token 4 200 {"appliedShift":null,"availabilityZones":["üüüüüüüüüüüüüüüü"],"name":"s","resourceIdentifier":"arn:arc:resource/0000000000000002","zonalAutoshiftStatus":"DISABLED"}
-slot 4 token 5 200 {"items":[{"name":"xxxxxxxxxxxxxxxxxxxxxxxxxxxxxxxxxxxxxxxxxxxxxxxxxxxxxxxxxxxxxxxx","resourceIdentifier":"arn:arc:resource/0000000000000001"},{"name":"s","resourceIdentifier":"arn:arc:resource/0000000000000002"}]}
-
-== a resource may have six zones, which keep their order
-call 0 0 0 RegisterManagedResource {"name":"r","availabilityZones":["f","e","d","c","b","a"]}
-call 0 0 0 GetManagedResource {"resourceIdentifier":"arn:arc:resource/0000000000000001"}
-----
-slot 0 token 1 200 {"resourceIdentifier":"arn:arc:resource/0000000000000001"}
-slot 1 token 2 200 {"appliedShift":null,"availabilityZones":["f","e","d","c","b","a"],"name":"r","resourceIdentifier":"arn:arc:resource/0000000000000001","zonalAutoshiftStatus":"DISABLED"}
-
-== a comment has up to 128 bytes
-call 0 0 0 RegisterManagedResource {"name":"r","availabilityZones":["z"]}
-call 0 0 0 StartZonalShift {"resourceIdentifier":"arn:arc:resource/0000000000000001","awayFrom":"z","expiresIn":"1m","comment":"cccccccccccccccccccccccccccccccccccccccccccccccccccccccccccccccccccccccccccccccccccccccccccccccccccccccccccccccccccccccccccccccc"}
-call 0 0 0 UpdateZonalShift {"zonalShiftId":"00000000-0000-0000-0000-000000000001","comment":"üüüüüüüüüüüüüüüüüüüüüüüüüüüüüüüüüüüüüüüüüüüüüüüüüüüüüüüüüüüüüüüü"}
-call 0 0 0 UpdateZonalShift {"zonalShiftId":"00000000-0000-0000-0000-000000000001","comment":""}
-----
-slot 0 token 1 200 {"resourceIdentifier":"arn:arc:resource/0000000000000001"}
-slot 1 token 2 200 {"awayFrom":"z","comment":"cccccccccccccccccccccccccccccccccccccccccccccccccccccccccccccccccccccccccccccccccccccccccccccccccccccccccccccccccccccccccccccccc","expiryTime":60000,"resourceIdentifier":"arn:arc:resource/0000000000000001","startTime":0,"status":"ACTIVE","zonalShiftId":"00000000-0000-0000-0000-000000000001"}
-slot 2 token 3 200 {"awayFrom":"z","comment":"üüüüüüüüüüüüüüüüüüüüüüüüüüüüüüüüüüüüüüüüüüüüüüüüüüüüüüüüüüüüüüüü","expiryTime":60000,"resourceIdentifier":"arn:arc:resource/0000000000000001","startTime":0,"status":"ACTIVE","zonalShiftId":"00000000-0000-0000-0000-000000000001"}
-slot 3 token 4 200 {"awayFrom":"z","comment":"","expiryTime":60000,"resourceIdentifier":"arn:arc:resource/0000000000000001","startTime":0,"status":"ACTIVE","zonalShiftId":"00000000-0000-0000-0000-000000000001"}
-
-== a shift keeps what an update doesn't give
-call 0 0 0 RegisterManagedResource {"name":"r","availabilityZones":["z"]}
-call 0 0 0 StartZonalShift {"resourceIdentifier":"arn:arc:resource/0000000000000001","awayFrom":"z","expiresIn":"1m","comment":"a"}
-call 0 1 0 UpdateZonalShift {"zonalShiftId":"00000000-0000-0000-0000-000000000001"}
-call 0 2 0 UpdateZonalShift {"zonalShiftId":"00000000-0000-0000-0000-000000000001","comment":null,"expiresIn":null}
-call 0 3 0 UpdateZonalShift {"zonalShiftId":"00000000-0000-0000-0000-000000000001","comment":"b"}
-call 0 4 0 UpdateZonalShift {"zonalShiftId":"00000000-0000-0000-0000-000000000001","expiresIn":"1h"}
-call 0 5 0 UpdateZonalShift {"zonalShiftId":"00000000-0000-0000-0000-000000000001","comment":"","expiresIn":"90m"}
-----
-slot 0 token 1 200 {"resourceIdentifier":"arn:arc:resource/0000000000000001"}
-slot 1 token 2 200 {"awayFrom":"z","comment":"a","expiryTime":60000,"resourceIdentifier":"arn:arc:resource/0000000000000001","startTime":0,"status":"ACTIVE","zonalShiftId":"00000000-0000-0000-0000-000000000001"}
-slot 2 token 3 200 {"awayFrom":"z","comment":"a","expiryTime":60000,"resourceIdentifier":"arn:arc:resource/0000000000000001","startTime":0,"status":"ACTIVE","zonalShiftId":"00000000-0000-0000-0000-000000000001"}
-slot 3 token 4 200 {"awayFrom":"z","comment":"a","expiryTime":60000,"resourceIdentifier":"arn:arc:resource/0000000000000001","startTime":0,"status":"ACTIVE","zonalShiftId":"00000000-0000-0000-0000-000000000001"}
-slot 4 token 5 200 {"awayFrom":"z","comment":"b","expiryTime":60000,"resourceIdentifier":"arn:arc:resource/0000000000000001","startTime":0,"status":"ACTIVE","zonalShiftId":"00000000-0000-0000-0000-000000000001"}
-slot 5 token 6 200 {"awayFrom":"z","comment":"b","expiryTime":3600004,"resourceIdentifier":"arn:arc:resource/0000000000000001","startTime":0,"status":"ACTIVE","zonalShiftId":"00000000-0000-0000-0000-000000000001"}
-slot 6 token 7 200 {"awayFrom":"z","comment":"","expiryTime":5400005,"resourceIdentifier":"arn:arc:resource/0000000000000001","startTime":0,"status":"ACTIVE","zonalShiftId":"00000000-0000-0000-0000-000000000001"}
-
-== a shift is cancelled
-call 0 0 0 RegisterManagedResource {"name":"r","availabilityZones":["z"]}
-call 0 0 0 StartZonalShift {"resourceIdentifier":"arn:arc:resource/0000000000000001","awayFrom":"z","expiresIn":"1m","comment":""}
-call 0 1 0 CancelZonalShift {"zonalShiftId":"00000000-0000-0000-0000-000000000001"}
-----
-slot 0 token 1 200 {"resourceIdentifier":"arn:arc:resource/0000000000000001"}
-slot 1 token 2 200 {"awayFrom":"z","comment":"","expiryTime":60000,"resourceIdentifier":"arn:arc:resource/0000000000000001","startTime":0,"status":"ACTIVE","zonalShiftId":"00000000-0000-0000-0000-000000000001"}
-slot 2 token 3 200 {"awayFrom":"z","comment":"","expiryTime":60000,"resourceIdentifier":"arn:arc:resource/0000000000000001","startTime":0,"status":"CANCELED","zonalShiftId":"00000000-0000-0000-0000-000000000001"}
-
-== shifts are listed by resource and by status
-call 0 0 0 RegisterManagedResource {"name":"r","availabilityZones":["z"]}
-call 0 0 0 RegisterManagedResource {"name":"s","availabilityZones":["z"]}
-call 0 0 0 StartZonalShift {"resourceIdentifier":"arn:arc:resource/0000000000000001","awayFrom":"z","expiresIn":"1m","comment":""}
-call 0 1 0 CancelZonalShift {"zonalShiftId":"00000000-0000-0000-0000-000000000001"}
-call 0 1 0 StartZonalShift {"resourceIdentifier":"arn:arc:resource/0000000000000001","awayFrom":"z","expiresIn":"1m","comment":""}
-call 0 1 0 StartZonalShift {"resourceIdentifier":"arn:arc:resource/0000000000000002","awayFrom":"z","expiresIn":"2h","comment":""}
-call 0 60001 0 ListZonalShifts
-call 0 0 0 ListZonalShifts {"resourceIdentifier":"arn:arc:resource/0000000000000001"}
-call 0 0 0 ListZonalShifts {"resourceIdentifier":null,"status":"ACTIVE"}
-call 0 0 0 ListZonalShifts {"status":"EXPIRED"}
-call 0 0 0 ListZonalShifts {"status":"CANCELED","resourceIdentifier":"arn:arc:resource/0000000000000001"}
-call 0 0 0 ListZonalShifts {"resourceIdentifier":"arn:arc:resource/0000000000000002","status":"CANCELED"}
-----
-slot 0 token 1 200 {"resourceIdentifier":"arn:arc:resource/0000000000000001"}
-slot 1 token 2 200 {"resourceIdentifier":"arn:arc:resource/0000000000000002"}
-slot 2 token 3 200 {"awayFrom":"z","comment":"","expiryTime":60000,"resourceIdentifier":"arn:arc:resource/0000000000000001","startTime":0,"status":"ACTIVE","zonalShiftId":"00000000-0000-0000-0000-000000000001"}
-slot 3 token 4 200 {"awayFrom":"z","comment":"","expiryTime":60000,"resourceIdentifier":"arn:arc:resource/0000000000000001","startTime":0,"status":"CANCELED","zonalShiftId":"00000000-0000-0000-0000-000000000001"}
-slot 4 token 5 200 {"awayFrom":"z","comment":"","expiryTime":60001,"resourceIdentifier":"arn:arc:resource/0000000000000001","startTime":1,"status":"ACTIVE","zonalShiftId":"00000000-0000-0000-0000-000000000002"}
-slot 5 token 6 200 {"awayFrom":"z","comment":"","expiryTime":7200001,"resourceIdentifier":"arn:arc:resource/0000000000000002","startTime":1,"status":"ACTIVE","zonalShiftId":"00000000-0000-0000-0000-000000000003"}
-slot 6 token 7 200 {"items":[{"awayFrom":"z","comment":"","expiryTime":60000,"resourceIdentifier":"arn:arc:resource/0000000000000001","startTime":0,"status":"CANCELED","zonalShiftId":"00000000-0000-0000-0000-000000000001"},{"awayFrom":"z","comment":"","expiryTime":60001,"resourceIdentifier":"arn:arc:resource/0000000000000001","startTime":1,"status":"EXPIRED","zonalShiftId":"00000000-0000-0000-0000-000000000002"},{"awayFrom":"z","comment":"","expiryTime":7200001,"resourceIdentifier":"arn:arc:resource/0000000000000002","startTime":1,"status":"ACTIVE","zonalShiftId":"00000000-0000-0000-0000-000000000003"}]}
-slot 7 token 8 200 {"items":[{"awayFrom":"z","comment":"","expiryTime":60000,"resourceIdentifier":"arn:arc:resource/0000000000000001","startTime":0,"status":"CANCELED","zonalShiftId":"00000000-0000-0000-0000-000000000001"},{"awayFrom":"z","comment":"","expiryTime":60001,"resourceIdentifier":"arn:arc:resource/0000000000000001","startTime":1,"status":"EXPIRED","zonalShiftId":"00000000-0000-0000-0000-000000000002"}]}
-slot 8 token 9 200 {"items":[{"awayFrom":"z","comment":"","expiryTime":7200001,"resourceIdentifier":"arn:arc:resource/0000000000000002","startTime":1,"status":"ACTIVE","zonalShiftId":"00000000-0000-0000-0000-000000000003"}]}
-slot 9 token 10 200 {"items":[{"awayFrom":"z","comment":"","expiryTime":60001,"resourceIdentifier":"arn:arc:resource/0000000000000001","startTime":1,"status":"EXPIRED","zonalShiftId":"00000000-0000-0000-0000-000000000002"}]}
-slot 10 token 11 200 {"items":[{"awayFrom":"z","comment":"","expiryTime":60000,"resourceIdentifier":"arn:arc:resource/0000000000000001","startTime":0,"status":"CANCELED","zonalShiftId":"00000000-0000-0000-0000-000000000001"}]}
-slot 11 token 12 200 {"items":[]}

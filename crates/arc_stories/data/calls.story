@@ -161,6 +161,11 @@ call 0 0 0 ListManagedResources []
 ---- status 6
 script line 3: NotObject
 
+== a body that isn't UTF-8 stands in a line that isn't
+call 0 0 0 ListManagedResources {"a":"ÿ"}
+---- status 6
+script line 1: NotUtf8
+
 == a bad line before a bad body is told
 walk
 call 0 0 0 ListManagedResources []

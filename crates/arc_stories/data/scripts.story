@@ -111,10 +111,14 @@ slot 0 token 1 404 {"Reason":"NotFound","Resource":"arn:arc:control/000000000000
 
 == a node crashes and starts again
 crash 0
+get 0 0 0 1
 restart 0
+get 0 0 0 1
 ----
 crash 0
+down 0
 restart 0 up 2
+slot 0 token 1 404 {"Reason":"NotFound","Resource":"arn:arc:control/0000000000000001","__type":"ResourceNotFoundException"}
 
 == a step is UTF-8
 get 0 0 0 ÿ
