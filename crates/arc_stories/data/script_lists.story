@@ -376,6 +376,36 @@ assert 0 0 0 r XOR x 1,1
 ---- status 6
 script line 1: Number
 
+== an assertion at an endpoint that isn't built
+assert 1 x 0 r AND 0 1
+---- status 6
+script line 1: Word
+
+== a gate at an endpoint that isn't built
+gate 1 x 0 g AND 0 1 2
+---- status 6
+script line 1: Word
+
+== the time of an assertion is tested before its name
+assert 0 x 0 01234567890123456789012345678901234567890123456789012345678901234 AND 0 1
+---- status 6
+script line 1: Number
+
+== the token of a gate is tested before its name
+gate 0 0 x 01234567890123456789012345678901234567890123456789012345678901234 AND 0 1 2
+---- status 6
+script line 1: Number
+
+== the name of a gate is tested before its wait
+gate 0 0 0 01234567890123456789012345678901234567890123456789012345678901234 AND x 1 2
+---- status 6
+script line 1: Name
+
+== a gate with a wait of more than seven days
+gate 0 0 0 g AND 604800001 1 2
+---- status 6
+script line 1: Number
+
 == a wait of more than seven days
 assert 0 0 0 r AND 604800001 1
 ---- status 6

@@ -13,7 +13,7 @@ fn steps_of(alloc: Global, script: &[u8]) -> Result<usize, ScriptEnd> {
 const LAST_LINES: [(&[u8], Result<usize, ScriptEnd>); 10] = [
     (b"get 0 0 0 1", Ok(1)),
     (b"get 0 0 0 1\nget 0 0 0 1", Ok(2)),
-    // A carriage return at the end is dropped there too, but one.
+    // One carriage return at its end is dropped there too.
     (b"get 0 0 0 1\r", Ok(1)),
     (
         b"set 0 0 0 1 On\r\r",
