@@ -294,7 +294,7 @@ call 0 0 0 StartPracticeRun {"resourceIdentifier":"arn:arc:resource/000000000000
 slot 0 token 1 200 {"resourceIdentifier":"arn:arc:resource/0000000000000001"}
 slot 1 token 2 404 {"Reason":"NotConfigured","Resource":"arn:arc:resource/0000000000000001","__type":"ResourceNotFoundException"}
 
-== Limit tells how many panels there may be
+== Limit tells how many there are
 loop n 0 14
 call 0 0 0 CreateControlPanel {"ControlPanelName":"p{n}"}
 endloop
@@ -499,71 +499,6 @@ slot 5 token 6 409 {"Cause":"BlockedWindow","Reason":"Blocked","__type":"Conflic
 slot 6 token 7 409 {"Cause":"BlockingAlarm","Reason":"Blocked","__type":"ConflictException"}
 slot 7 token 8 200 {}
 slot 8 token 9 409 {"Cause":"OutcomeAlarm","Reason":"Blocked","__type":"ConflictException"}
-
-== Limit tells how many controls there may be in all panels
-call 0 0 0 CreateControlPanel {"ControlPanelName":"p"}
-loop n 1 256
-new 0 0 0 c{n}
-endloop
-new 0 0 0 c
-call 0 0 0 CreateRoutingControl {"RoutingControlName":"c","ControlPanelArn":"arn:arc:panel/0000000000000002"}
-----
-slot 0 token 1 200 {"ControlPanel":{"ControlPanelArn":"arn:arc:panel/0000000000000002","Name":"p"}}
-loop n 1 256
-slot {n} token {n+1} 200 {"RoutingControl":{"ControlPanelArn":"arn:arc:panel/0000000000000001","Name":"c{n}","RoutingControlArn":"arn:arc:control/{n:016x}"}}
-endloop
-slot 257 token 258 402 {"Count":256,"Reason":"Limit","__type":"ServiceLimitExceededException"}
-slot 258 token 259 402 {"Count":256,"Reason":"Limit","__type":"ServiceLimitExceededException"}
-
-== Limit tells how many rules there may be
-new 0 0 0 a
-loop n 1 64
-assert 0 0 0 r{n} AND 0 1
-endloop
-assert 0 0 0 r AND 0 1
-----
-slot 0 token 1 200 {"RoutingControl":{"ControlPanelArn":"arn:arc:panel/0000000000000001","Name":"a","RoutingControlArn":"arn:arc:control/0000000000000001"}}
-loop n 1 64
-slot {n} token {n+1} 200 {"SafetyRuleArn":"arn:arc:rule/{n:016x}"}
-endloop
-slot 65 token 66 402 {"Count":64,"Reason":"Limit","__type":"ServiceLimitExceededException"}
-
-== Limit tells how many resources there may be
-loop n 0 63
-call 0 0 0 RegisterManagedResource {"name":"r{n}","availabilityZones":["z"]}
-endloop
-call 0 0 0 RegisterManagedResource {"name":"r","availabilityZones":["z"]}
-----
-loop n 0 63
-slot {n} token {n+1} 200 {"resourceIdentifier":"arn:arc:resource/{n+1:016x}"}
-endloop
-slot 64 token 65 402 {"Count":64,"Reason":"Limit","__type":"ServiceLimitExceededException"}
-
-== Limit tells how many autoshifts there may be
-loop n 0 15
-call 0 0 0 StartAutoshift {"awayFrom":"z{n}"}
-endloop
-call 0 0 0 StartAutoshift {"awayFrom":"z"}
-----
-loop n 0 15
-slot {n} token {n+1} 200 {}
-endloop
-slot 16 token 17 402 {"Count":16,"Reason":"Limit","__type":"ServiceLimitExceededException"}
-
-== Limit tells how many alarms may be red
-loop n 0 255
-call 0 0 0 SetAlarmState {"alarmIdentifier":"a{n}","state":"ALARM"}
-endloop
-call 0 0 0 SetAlarmState {"alarmIdentifier":"a","state":"ALARM"}
-call 0 0 0 SetAlarmState {"alarmIdentifier":"a","state":"OK"}
-call 0 0 0 SetAlarmState {"alarmIdentifier":"a7","state":"ALARM"}
-----
-loop n 0 255
-slot {n} token {n+1} 200 {}
-endloop
-slot 256 token 257 402 {"Count":256,"Reason":"Limit","__type":"ServiceLimitExceededException"}
-slot 257 token 258 200 {}
-slot 258 token 259 200 {}
 
 == a run is no shift of the customer, and a shift no run
 call 0 0 0 RegisterManagedResource {"name":"r","availabilityZones":["z"]}
