@@ -233,3 +233,30 @@ slot 2 token 3 409 {"Reason":"Forbidden","Rules":[{"Cause":"AssertFalse","Safety
 slot 3 token 4 404 {"Reason":"NotFound","Resource":"arn:arc:rule/0000000000000009","__type":"ResourceNotFoundException"}
 slot 4 token 5 200 {}
 slot 5 token 6 200 {"RoutingControlArn":"arn:arc:control/0000000000000001","RoutingControlName":"a","RoutingControlState":"On"}
+
+== after a hundred changes past an override a rule still counts right
+new 0 0 0 a
+new 0 0 0 b
+batch 0 0 0 1=On,2=On -
+assert 0 0 0 both AND 0 1,2
+loop n 0 99
+batch 0 0 0 1=Off 1
+set 0 0 0 1 On
+endloop
+set 0 0 0 2 Off
+batch 0 0 0 1=Off,2=Off 1
+set 0 0 0 1 On
+batch 0 0 0 1=On,2=On -
+----
+slot 0 token 1 200 {"RoutingControl":{"ControlPanelArn":"arn:arc:panel/0000000000000001","Name":"a","RoutingControlArn":"arn:arc:control/0000000000000001"}}
+slot 1 token 2 200 {"RoutingControl":{"ControlPanelArn":"arn:arc:panel/0000000000000001","Name":"b","RoutingControlArn":"arn:arc:control/0000000000000002"}}
+slot 2 token 3 200 {}
+slot 3 token 4 200 {"SafetyRuleArn":"arn:arc:rule/0000000000000001"}
+loop n 0 99
+slot {2n+4} token {2n+5} 200 {}
+slot {2n+5} token {2n+6} 200 {}
+endloop
+slot 204 token 205 409 {"Reason":"Forbidden","Rules":[{"Cause":"AssertFalse","SafetyRuleArn":"arn:arc:rule/0000000000000001"}],"__type":"ConflictException"}
+slot 205 token 206 200 {}
+slot 206 token 207 409 {"Reason":"Forbidden","Rules":[{"Cause":"AssertFalse","SafetyRuleArn":"arn:arc:rule/0000000000000001"}],"__type":"ConflictException"}
+slot 207 token 208 200 {}

@@ -103,14 +103,14 @@ slot 5 token 6 409 {"Place":5,"Reason":"TokenAhead","Token":9,"__type":"Conflict
 slot 6 token 7 200 {"RoutingControls":[{"ControlPanelArn":"arn:arc:panel/0000000000000001","RoutingControlArn":"arn:arc:control/0000000000000001","RoutingControlName":"a","RoutingControlState":"Off"}]}
 slot 7 token 8 200 {"SafetyRules":[]}
 
-== tokens of lists and reads are looked at too
-call 0 0 0 ListRoutingControls
+== tokens of lists are looked at too
+call 0 0 0 ListManagedResources
 call 0 0 1 ListRoutingControls
 call 0 0 9 ListRoutingControls
 call 0 0 4 ListRoutingControls
 call 0 0 4 ListRoutingControls
 ----
-slot 0 token 1 200 {"RoutingControls":[]}
+slot 0 token 1 200 {"items":[]}
 slot 1 token 2 200 {"RoutingControls":[]}
 slot 2 token 3 409 {"Place":2,"Reason":"TokenAhead","Token":9,"__type":"ConflictException"}
 slot 3 token 4 409 {"Place":3,"Reason":"TokenAhead","Token":4,"__type":"ConflictException"}

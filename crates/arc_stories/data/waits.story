@@ -420,3 +420,28 @@ slot 1 token 2 200 {"RoutingControl":{"ControlPanelArn":"arn:arc:panel/000000000
 slot 2 token 3 200 {"SafetyRuleArn":"arn:arc:rule/0000000000000001"}
 slot 3 token 4 200 {}
 slot 4 token 5 409 {"Reason":"Forbidden","Rules":[{"Cause":"Waiting","SafetyRuleArn":"arn:arc:rule/0000000000000001","Until":253402905599999}],"__type":"ConflictException"}
+
+== a hundred changes, each at the very millisecond
+new 0 0 0 open
+new 0 0 0 t
+set 0 0 0 1 On
+gate 0 0 0 w AND 10 1 2
+loop n 0 49
+set 0 {20n} 0 2 On
+set 0 {20n+9} 0 2 Off
+set 0 {20n+10} 0 2 Off
+set 0 {20n+19} 0 2 On
+endloop
+set 0 1000 0 2 On
+----
+slot 0 token 1 200 {"RoutingControl":{"ControlPanelArn":"arn:arc:panel/0000000000000001","Name":"open","RoutingControlArn":"arn:arc:control/0000000000000001"}}
+slot 1 token 2 200 {"RoutingControl":{"ControlPanelArn":"arn:arc:panel/0000000000000001","Name":"t","RoutingControlArn":"arn:arc:control/0000000000000002"}}
+slot 2 token 3 200 {}
+slot 3 token 4 200 {"SafetyRuleArn":"arn:arc:rule/0000000000000001"}
+loop n 0 49
+slot {4n+4} token {4n+5} 200 {}
+slot {4n+5} token {4n+6} 409 {"Reason":"Forbidden","Rules":[{"Cause":"Waiting","SafetyRuleArn":"arn:arc:rule/0000000000000001","Until":{20n+10}}],"__type":"ConflictException"}
+slot {4n+6} token {4n+7} 200 {}
+slot {4n+7} token {4n+8} 409 {"Reason":"Forbidden","Rules":[{"Cause":"Waiting","SafetyRuleArn":"arn:arc:rule/0000000000000001","Until":{20n+20}}],"__type":"ConflictException"}
+endloop
+slot 204 token 205 200 {}
