@@ -197,6 +197,7 @@ batch 0 3 0 1=Off 1
 set 0 4 0 2 Off
 set 0 5 0 2 On
 set 0 6 0 1 Off
+call 0 7 0 ListRoutingControls
 ----
 slot 0 token 1 200 {"RoutingControl":{"ControlPanelArn":"arn:arc:panel/0000000000000001","Name":"a","RoutingControlArn":"arn:arc:control/0000000000000001"}}
 slot 1 token 2 200 {"RoutingControl":{"ControlPanelArn":"arn:arc:panel/0000000000000001","Name":"b","RoutingControlArn":"arn:arc:control/0000000000000002"}}
@@ -207,6 +208,7 @@ slot 5 token 6 200 {}
 slot 6 token 7 409 {"Reason":"Forbidden","Rules":[{"Cause":"AssertFalse","SafetyRuleArn":"arn:arc:rule/0000000000000001"}],"__type":"ConflictException"}
 slot 7 token 8 200 {}
 slot 8 token 9 200 {}
+slot 9 token 10 200 {"RoutingControls":[{"ControlPanelArn":"arn:arc:panel/0000000000000001","RoutingControlArn":"arn:arc:control/0000000000000001","RoutingControlName":"a","RoutingControlState":"Off"},{"ControlPanelArn":"arn:arc:panel/0000000000000001","RoutingControlArn":"arn:arc:control/0000000000000002","RoutingControlName":"b","RoutingControlState":"On"}]}
 
 == an entry that changes nothing doesn't make a batch meet its assertion
 new 0 0 0 a

@@ -7,6 +7,7 @@ gate 0 0 0 guard AND 0 1 2
 batch 0 1 0 1=On,2=On -
 batch 0 1 0 1=On -
 batch 0 1 0 2=On -
+call 0 1 0 ListRoutingControls
 ----
 slot 0 token 1 200 {"RoutingControl":{"ControlPanelArn":"arn:arc:panel/0000000000000001","Name":"g","RoutingControlArn":"arn:arc:control/0000000000000001"}}
 slot 1 token 2 200 {"RoutingControl":{"ControlPanelArn":"arn:arc:panel/0000000000000001","Name":"t","RoutingControlArn":"arn:arc:control/0000000000000002"}}
@@ -14,6 +15,7 @@ slot 2 token 3 200 {"SafetyRuleArn":"arn:arc:rule/0000000000000001"}
 slot 3 token 4 409 {"Reason":"Forbidden","Rules":[{"Cause":"GateClosed","SafetyRuleArn":"arn:arc:rule/0000000000000001"}],"__type":"ConflictException"}
 slot 4 token 5 200 {}
 slot 5 token 6 200 {}
+slot 6 token 7 200 {"RoutingControls":[{"ControlPanelArn":"arn:arc:panel/0000000000000001","RoutingControlArn":"arn:arc:control/0000000000000001","RoutingControlName":"g","RoutingControlState":"On"},{"ControlPanelArn":"arn:arc:panel/0000000000000001","RoutingControlArn":"arn:arc:control/0000000000000002","RoutingControlName":"t","RoutingControlState":"On"}]}
 
 == a batch may pass an open gate and close it
 new 0 0 0 g

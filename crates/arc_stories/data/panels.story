@@ -14,6 +14,19 @@ call 0 0 0 ListSafetyRules {"ControlPanelArn":"arn:arc:panel/0000000000000001"}
 slot 0 token 1 200 {"RoutingControls":[]}
 slot 1 token 2 200 {"SafetyRules":[]}
 
+== a new panel has no controls and no rules
+call 0 0 0 CreateControlPanel {"ControlPanelName":"ops"}
+new 0 0 0 a
+assert 0 0 0 r OR 0 1
+call 0 0 0 ListRoutingControls {"ControlPanelArn":"arn:arc:panel/0000000000000002"}
+call 0 0 0 ListSafetyRules {"ControlPanelArn":"arn:arc:panel/0000000000000002"}
+----
+slot 0 token 1 200 {"ControlPanel":{"ControlPanelArn":"arn:arc:panel/0000000000000002","Name":"ops"}}
+slot 1 token 2 200 {"RoutingControl":{"ControlPanelArn":"arn:arc:panel/0000000000000001","Name":"a","RoutingControlArn":"arn:arc:control/0000000000000001"}}
+slot 2 token 3 200 {"SafetyRuleArn":"arn:arc:rule/0000000000000001"}
+slot 3 token 4 200 {"RoutingControls":[]}
+slot 4 token 5 200 {"SafetyRules":[]}
+
 == the name of a panel is taken once
 call 0 0 0 CreateControlPanel {"ControlPanelName":"ops"}
 call 0 0 0 CreateControlPanel {"ControlPanelName":"ops"}

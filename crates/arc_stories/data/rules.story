@@ -287,6 +287,8 @@ call 0 0 0 CreateRoutingControl {"RoutingControlName":"x","ControlPanelArn":"arn
 assert 0 0 0 r OR 0 1
 call 0 0 0 CreateSafetyRule {"AssertionRule":{"Name":"s","ControlPanelArn":"arn:arc:panel/0000000000000002","AssertedControls":["arn:arc:control/0000000000000002"],"RuleConfig":{"Type":"OR"},"WaitPeriodMs":0}}
 call 0 0 0 UpdateSafetyRule {"AssertionRuleUpdate":{"SafetyRuleArn":"arn:arc:rule/0000000000000002","Name":"r","WaitPeriodMs":0}}
+call 0 0 0 CreateSafetyRule {"AssertionRule":{"Name":"s","ControlPanelArn":"arn:arc:panel/0000000000000002","AssertedControls":["arn:arc:control/0000000000000002"],"RuleConfig":{"Type":"OR"},"WaitPeriodMs":0}}
+call 0 0 0 UpdateSafetyRule {"AssertionRuleUpdate":{"SafetyRuleArn":"arn:arc:rule/0000000000000003","Name":"r","WaitPeriodMs":0}}
 call 0 0 0 ListSafetyRules {"ControlPanelArn":"arn:arc:panel/0000000000000002"}
 ----
 slot 0 token 1 200 {"ControlPanel":{"ControlPanelArn":"arn:arc:panel/0000000000000002","Name":"ops"}}
@@ -295,7 +297,9 @@ slot 2 token 3 200 {"RoutingControl":{"ControlPanelArn":"arn:arc:panel/000000000
 slot 3 token 4 200 {"SafetyRuleArn":"arn:arc:rule/0000000000000001"}
 slot 4 token 5 200 {"SafetyRuleArn":"arn:arc:rule/0000000000000002"}
 slot 5 token 6 200 {}
-slot 6 token 7 200 {"SafetyRules":[{"Name":"r","SafetyRuleArn":"arn:arc:rule/0000000000000002","Type":"ASSERTION","WaitPeriodMs":0}]}
+slot 6 token 7 200 {"SafetyRuleArn":"arn:arc:rule/0000000000000003"}
+slot 7 token 8 409 {"Reason":"NameTaken","Resource":"arn:arc:rule/0000000000000002","__type":"ConflictException"}
+slot 8 token 9 200 {"SafetyRules":[{"Name":"r","SafetyRuleArn":"arn:arc:rule/0000000000000002","Type":"ASSERTION","WaitPeriodMs":0},{"Name":"s","SafetyRuleArn":"arn:arc:rule/0000000000000003","Type":"ASSERTION","WaitPeriodMs":0}]}
 
 == the old name of a renamed rule is free
 new 0 0 0 a

@@ -28,7 +28,9 @@ set 0 0 0 1 On
 set 0 10000 0 2 On
 set 0 14999 0 2 Off
 set 0 14999 0 2 Off
+get 0 14999 0 2
 set 0 15000 0 2 Off
+get 0 15000 0 2
 ----
 slot 0 token 1 200 {"RoutingControl":{"ControlPanelArn":"arn:arc:panel/0000000000000001","Name":"g","RoutingControlArn":"arn:arc:control/0000000000000001"}}
 slot 1 token 2 200 {"RoutingControl":{"ControlPanelArn":"arn:arc:panel/0000000000000001","Name":"t","RoutingControlArn":"arn:arc:control/0000000000000002"}}
@@ -37,7 +39,9 @@ slot 3 token 4 200 {}
 slot 4 token 5 200 {}
 slot 5 token 6 409 {"Reason":"Forbidden","Rules":[{"Cause":"Waiting","SafetyRuleArn":"arn:arc:rule/0000000000000001","Until":15000}],"__type":"ConflictException"}
 slot 6 token 7 409 {"Reason":"Forbidden","Rules":[{"Cause":"Waiting","SafetyRuleArn":"arn:arc:rule/0000000000000001","Until":15000}],"__type":"ConflictException"}
-slot 7 token 8 200 {}
+slot 7 token 8 200 {"RoutingControlArn":"arn:arc:control/0000000000000002","RoutingControlName":"t","RoutingControlState":"On"}
+slot 8 token 9 200 {}
+slot 9 token 10 200 {"RoutingControlArn":"arn:arc:control/0000000000000002","RoutingControlName":"t","RoutingControlState":"Off"}
 
 == a rule waits after changes since it was made, and after no other
 new 0 0 0 a
