@@ -1,6 +1,6 @@
 # Limits: how many of a kind are kept, and what is refused beyond.
 
-== a list of controls has 16 panels, the default one among them
+== 16 panels are kept, the default one among them
 loop n 0 14
 call 0 0 0 CreateControlPanel {"ControlPanelName":"p{n+2}"}
 endloop

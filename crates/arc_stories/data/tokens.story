@@ -28,7 +28,7 @@ slot 2 token 3 200 {"RoutingControl":{"ControlPanelArn":"arn:arc:panel/000000000
 slot 3 token 4 200 {"RoutingControl":{"ControlPanelArn":"arn:arc:panel/0000000000000001","Name":"d","RoutingControlArn":"arn:arc:control/0000000000000004"}}
 slot 4 token 5 200 {"RoutingControlArn":"arn:arc:control/0000000000000001","RoutingControlName":"a","RoutingControlState":"Off"}
 
-== a token one above the length is ahead, and no longer at the next place
+== a token one above the place is ahead, and at the next place it is answered
 new 0 0 0 a
 get 0 0 2 1
 get 0 0 2 1
