@@ -1,18 +1,13 @@
-//! The tests of `arc_batch`, `arc_shift`, `arc_practice`, `arc_precedence` and `arc_state`: what one plain cluster and its
-//! parts do, call by call.
+//! The tests of `arc_shift`, `arc_practice`, `arc_precedence` and `arc_state`: what one plain cluster and its parts do, call by
+//! call. What panels, safety rules and batches do is told by the stories of `arc_stories`, and by no test here.
 //!
 //! They stand apart from those crates, so that each of those libraries is proved once, and not again with its tests. Each
-//! tested crate has a module here, and reaches it by its public functions alone; `arc_state` has three: `state`, `runs` and
-//! `days`. What is asked of a state, and how its replies are shown, is said in `asks`. It exports nothing, and no promise
-//! rests on it.
+//! tested crate has a module here, and reaches it by its public functions alone; that of `arc_state` is `runs`. What is
+//! asked of a state, and how its replies are shown, is said in `asks`. It exports nothing, and no promise rests on it.
 #![tactic(auto)]
 
 #[cfg(test)]
 mod asks;
-#[cfg(test)]
-mod batch;
-#[cfg(test)]
-mod days;
 #[cfg(test)]
 mod practice;
 #[cfg(test)]
@@ -21,5 +16,3 @@ mod precedence;
 mod runs;
 #[cfg(test)]
 mod shift;
-#[cfg(test)]
-mod state;
