@@ -14,12 +14,8 @@ mod batch;
 #[cfg(test)]
 mod days;
 #[cfg(test)]
-mod practice;
+mod parts;
 #[cfg(test)]
-mod precedence;
-#[cfg(test)]
-mod runs;
-#[cfg(test)]
-mod shift;
+mod reads;
 #[cfg(test)]
 mod state;
