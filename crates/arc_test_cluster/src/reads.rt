@@ -138,7 +138,8 @@ fn check_all(
     Ok(())
 }
 
-const PENDING: &str = "Done(Shifts { items: List { items: [ShiftItem { id: ShiftId(1), resource: ResourceId(1), \
+const PENDING: &str =
+    "Done(Shifts { items: List { items: [ShiftItem { id: ShiftId(1), resource: ResourceId(1), \
     away_from: \"az1\", comment: Text { text: \"\" }, start: 347400000, expiry: 349200000, status: Active, outcome: Some(Pending) }] } })";
 
 const NO_SHIFT: &str = "Done(Shifts { items: List { items: [] } })";
