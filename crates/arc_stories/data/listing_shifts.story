@@ -164,7 +164,7 @@ slot 4 token 5 200 {"items":[{"awayFrom":"az1","comment":"","expiryTime":60000,"
 == a list may be asked for with a body or without
 call 0 0 0 RegisterManagedResource {"name":"lb","availabilityZones":["az1","az2"]}
 call 0 0 0 StartZonalShift {"resourceIdentifier":"arn:arc:resource/0000000000000001","awayFrom":"az1","expiresIn":"1m","comment":""}
-call 0 0 0 ListZonalShifts {} 
+call 0 0 0 ListZonalShifts {}
 call 0 0 0 ListZonalShifts
 ----
 slot 0 token 1 200 {"resourceIdentifier":"arn:arc:resource/0000000000000001"}
