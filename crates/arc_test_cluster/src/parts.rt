@@ -1,19 +1,62 @@
+//! What the parts say of shifts and runs that no list of commands makes: events that come too late, and a run that goes on
+//! beside a shift of the customer or an autoshift. Whatever a list of commands makes is told by stories.
 ghost use Rattle.std.specs.Prelude.{◌<◌, ◌↔◌, All, IsNone, IsSome, IsTrue};
 ghost use Rattle.arc_plain.specs.Practice.{config_of, pending_of};
 ghost use Rattle.arc_practice.specs.Kept.{HaveStarted};
 
 use arc_data::{List, PracticeConfig, ResourceId, ShiftId, Text, ZoneName};
-use arc_practice::Practices;
+use arc_practice::{Ending, Outcome, Practices, Run, outcome};
 use arc_precedence::{Applied, Kind, ShiftsView, applied_shift, pending_of};
-use arc_shift::{Resources, Shifts};
+use arc_shift::{Resources, Shift, Shifts, Status, status};
 use std::alloc::Global;
-use std::process::Abort;
 use std::test::Fail;
 
 const LOAD_BALANCER: ResourceId = ResourceId(1);
 
+/// When the run of a test is over.
+const RUN_OVER: u64 = 1_800_000;
+
 fn zone(name: &str) -> Result<ZoneName, Fail> {
     Ok(ZoneName::of(name).ok_or("no zone")?)
+}
+
+#[test]
+fn a_cancel_at_the_expiry_of_a_shift_is_none(rt: HostRuntime) -> Result<(), Fail> {
+    let shift = Shift {
+        id: ShiftId(1),
+        resource: LOAD_BALANCER,
+        away_from: zone("az1")?,
+        comment: Text::of(rt.alloc(), "")?,
+        start: 1_000,
+        expiry: 2_000,
+        canceled: Some(2_000),
+    };
+    assert_eq!(rt; status(&shift, 2_000), Status::Expired);
+    Ok(())
+}
+
+/// A run that an event ends a moment too late.
+fn ended(alloc: Global, ending: Ending) -> Result<Run, Fail> {
+    Ok(Run {
+        id: ShiftId(1),
+        resource: LOAD_BALANCER,
+        away_from: zone("az1")?,
+        comment: Text::of(alloc, "")?,
+        start: 0,
+        outcome_alarms: List::of(vec![in alloc; Text::of(alloc, "errors")?]?),
+        ended: Some((ending, RUN_OVER)),
+    })
+}
+
+#[test]
+fn an_event_at_the_end_of_a_run_is_none(rt: HostRuntime) -> Result<(), Fail> {
+    for ending in [Ending::Alarm, Ending::Interrupt] {
+        assert_eq!(rt;
+            outcome(&ended(rt.alloc(), ending)?, RUN_OVER),
+            Outcome::Succeeded
+        );
+    }
+    Ok(())
 }
 
 /// A resource in three zones, the last two of which are in autoshift, the third since before.
@@ -96,8 +139,8 @@ fn practise(alloc: Global, practices: &mut Practices) -> Result<(), Fail> {
     Ok(())
 }
 
-/// Such a run, or none.
-fn practices(alloc: Global, practised: bool) -> Result<Practices, Fail> {
+/// Such a run.
+fn practices(alloc: Global) -> Result<Practices, Fail> {
     let mut practices = Practices::fresh(alloc)?;
     let config = PracticeConfig {
         blocked_dates: List::of(Vec::new(alloc)),
@@ -108,20 +151,18 @@ fn practices(alloc: Global, practised: bool) -> Result<Practices, Fail> {
     practices
         .configure(alloc, LOAD_BALANCER, &config)
         .map_err(|_| "configure")?;
-    if practised {
-        practise(alloc, &mut practices)?;
-    }
+    practise(alloc, &mut practices)?;
     Ok(practices)
 }
 
-/// Whether there is a shift, whether autoshift is enabled, whether there is a run, and the moment.
-type Case = (bool, bool, bool, u64);
+/// Whether there is a shift, whether autoshift is enabled, and the moment.
+type Case = (bool, bool, u64);
 
-/// The shift that is applied then.
+/// The shift that is applied then, beside the run.
 fn applied(alloc: Global, case: Case) -> Result<Option<Applied>, Fail> {
-    let (shifted, enabled, practised, now) = case;
+    let (shifted, enabled, now) = case;
     let shifts = shifts(alloc, shifted)?;
-    let practices = practices(alloc, practised)?;
+    let practices = practices(alloc)?;
     let resources = resources(alloc, enabled)?;
     let view = ShiftsView {
         shifts: &shifts,
@@ -131,53 +172,20 @@ fn applied(alloc: Global, case: Case) -> Result<Option<Applied>, Fail> {
     Ok(applied_shift(&view, LOAD_BALANCER, now))
 }
 
-/// Tests each case against the shift that is to be applied.
-fn check_all(
-    rt: &(impl Abort + AllocGlobal),
-    rows: &[(Case, Option<(Kind, &str)>)],
-) -> Result<(), Fail> {
-    for (case, expected) in rows {
-        match (applied(rt.alloc(), *case)?, *expected) {
-            (Some(applied), Some((kind, name))) => {
-                assert_eq!(rt; applied.kind, kind);
-                assert_eq!(rt; applied.zone.as_str(), name);
-            }
-            (applied, expected) => assert!(rt; applied.is_none() && expected.is_none()),
-        }
+const BESIDE_A_RUN: [(Case, Kind, &str); 5] = [
+    ((true, true, 59_999), Kind::Customer, "az1"),
+    ((true, true, 60_000), Kind::Autoshift, "az3"),
+    ((true, false, 59_999), Kind::Customer, "az1"),
+    ((true, false, 60_000), Kind::PracticeRun, "az2"),
+    ((false, true, 0), Kind::Autoshift, "az3"),
+];
+
+#[test]
+fn a_run_comes_behind_whatever_goes_on_beside_it(rt: HostRuntime) -> Result<(), Fail> {
+    for (case, kind, name) in BESIDE_A_RUN {
+        let applied = applied(rt.alloc(), case)?.ok_or("none")?;
+        assert_eq!(rt; applied.kind, kind);
+        assert_eq!(rt; applied.zone.as_str(), name);
     }
     Ok(())
-}
-
-const CUSTOMER: Option<(Kind, &str)> = Some((Kind::Customer, "az1"));
-
-const AUTOSHIFT: Option<(Kind, &str)> = Some((Kind::Autoshift, "az3"));
-
-const RUN: Option<(Kind, &str)> = Some((Kind::PracticeRun, "az2"));
-
-#[test]
-fn the_customer_comes_first_then_the_first_autoshift(rt: HostRuntime) -> Result<(), Fail> {
-    check_all(
-        &rt,
-        &[
-            ((true, true, true, 59_999), CUSTOMER),
-            ((true, true, true, 60_000), AUTOSHIFT),
-            ((true, false, true, 59_999), CUSTOMER),
-            ((true, false, false, 60_000), None),
-            ((false, true, true, 0), AUTOSHIFT),
-            ((false, false, false, 0), None),
-        ],
-    )
-}
-
-#[test]
-fn a_practice_run_comes_last_and_until_it_is_over(rt: HostRuntime) -> Result<(), Fail> {
-    check_all(
-        &rt,
-        &[
-            ((true, false, true, 60_000), RUN),
-            ((false, false, true, 0), RUN),
-            ((false, false, true, 1_799_999), RUN),
-            ((false, false, true, 1_800_000), None),
-        ],
-    )
 }
