@@ -1,0 +1,35 @@
+//! Lines of bytes.
+
+use std::alloc::{AllocError, Global};
+
+/// A line, and where it stands.
+#[derive(Clone, Copy, Debug)]
+pub struct Line<'a> {
+    /// Its number in the file, counted from 1.
+    pub number: u64,
+    /// Its bytes, with the LF that ends it; the last line of a file may lack that.
+    pub whole: &'a [u8],
+}
+
+impl<'a> Line<'a> {
+    /// Its bytes without the LF.
+    pub fn text(&self) -> &'a [u8] {
+        match self.whole {
+            [text @ .., b'\n'] => text,
+            text => text,
+        }
+    }
+}
+
+/// The lines of these bytes, with the numbers that these are; as many lines as there are numbers.
+pub fn numbered<'a>(
+    alloc: Global,
+    bytes: &'a [u8],
+    numbers: impl Iterator<Item = u64> + Drop,
+) -> Result<Vec<Line<'a>>, AllocError> {
+    let mut lines = Vec::new(alloc);
+    for (number, whole) in numbers.zip(bytes.split_inclusive(|byte| *byte == b'\n')) {
+        lines.push(Line { number, whole })?;
+    }
+    Ok(lines)
+}
