@@ -12,7 +12,7 @@ use std::io::{self, ErrorKind, Write};
 use std::rt::Files;
 
 /// What became of the cases of some files.
-#[derive(Clone, Copy, Debug, Default)]
+#[derive(Clone, Copy, Default)]
 pub struct Counts {
     /// How many cases were run.
     pub cases: u64,
@@ -57,7 +57,7 @@ pub fn run_file(
 }
 
 /// What the cases of a file came to.
-#[derive(Debug, Drop)]
+#[derive(Drop)]
 struct Ran {
     /// What is told of them.
     told: Vec<u8>,

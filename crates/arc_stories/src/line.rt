@@ -3,7 +3,7 @@
 use std::alloc::{AllocError, Global};
 
 /// A line, and where it stands.
-#[derive(Clone, Copy, Debug)]
+#[derive(Clone, Copy)]
 pub struct Line<'a> {
     /// Its number in the file, counted from 1.
     pub number: u64,

@@ -61,7 +61,7 @@ fn tell_sum(rt: &impl Print, counts: Counts) -> io::Result<u8> {
         files,
     } = counts;
     if files != 0 {
-        println!(rt; "{cases} cases, {differ} differ, {files} files not run")?;
+        println!(rt; "{cases} cases, {differ} differ, files not run: {files}")?;
         return Ok(2);
     }
     println!(rt; "{cases} cases, {differ} differ")?;

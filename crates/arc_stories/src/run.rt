@@ -8,7 +8,7 @@ use arc_drill::drill;
 use std::alloc::Global;
 
 /// How a drill ended.
-#[derive(Debug, Drop)]
+#[derive(Drop)]
 pub struct Ended {
     /// The exit status.
     pub status: u8,

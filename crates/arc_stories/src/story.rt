@@ -10,7 +10,7 @@ use crate::unroll::{Unrolled, number, unroll};
 use std::alloc::Global;
 
 /// The file's lines, in the order in which they stand.
-#[derive(Debug, Drop)]
+#[derive(Drop)]
 pub struct Story<'a> {
     /// The lines before the first case.
     pub prose: &'a [Line<'a>],
@@ -19,7 +19,7 @@ pub struct Story<'a> {
 }
 
 /// A case: what is run, and how it is to end.
-#[derive(Debug, Drop)]
+#[derive(Drop)]
 pub struct Case<'a> {
     /// The line of its title.
     pub title: Line<'a>,

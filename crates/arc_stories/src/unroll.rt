@@ -9,7 +9,7 @@ use crate::line::{Line, numbered};
 use std::alloc::{AllocError, Global};
 
 /// Lines whose loops are unrolled.
-#[derive(Debug, Drop)]
+#[derive(Drop)]
 pub struct Unrolled {
     /// The lines, each ended by LF.
     pub bytes: Vec<u8>,
@@ -49,7 +49,7 @@ impl Unrolled {
 }
 
 /// A loop whose lines are being read.
-#[derive(Debug, Drop)]
+#[derive(Drop)]
 struct Loop<'a> {
     line: u64,
     name: &'a str,
@@ -161,7 +161,7 @@ fn fill(bytes: &mut Vec<u8>, text: &[u8], name: &str, n: u64) -> Result<(), Allo
 }
 
 /// A number in its place.
-#[derive(Clone, Copy, Debug)]
+#[derive(Clone, Copy)]
 enum Place {
     Decimal(u64),
     Hexadecimal { number: u64, width: u64 },
