@@ -1,6 +1,6 @@
 //! Where what a case got differs from what it wants.
 
-use crate::line::{Line, numbered};
+use crate::line::{Line, lines_of};
 use crate::run::Ended;
 use crate::story::Case;
 use std::alloc::Global;
@@ -26,7 +26,7 @@ pub fn tell(told: &mut Vec<u8>, file: &str, case: &Case<'_>, ended: &Ended) -> i
         )?;
     }
     let wanted = case.wanted.lines(alloc)?;
-    let got = numbered(alloc, ended.report(), 1..u64::MAX)?;
+    let got = lines_of(alloc, ended.report())?;
     tell_lines(told, file, case.separator.number, &wanted, &got)
 }
 
@@ -34,26 +34,45 @@ pub fn tell(told: &mut Vec<u8>, file: &str, case: &Case<'_>, ended: &Ended) -> i
 fn tell_lines(
     told: &mut Vec<u8>,
     file: &str,
-    mut at: u64,
-    mut wanted: &[Line<'_>],
-    mut got: &[Line<'_>],
+    at: u64,
+    wanted: &[Line<'_>],
+    got: &[Line<'_>],
 ) -> io::Result<()> {
-    while let ([a, others @ ..], [b, more @ ..]) = (wanted, got)
-        && a.whole == b.whole
-    {
-        (at, wanted, got) = (a.number, others, more);
-    }
-    while let ([others @ .., a], [more @ .., b]) = (wanted, got)
-        && a.whole == b.whole
-    {
-        (wanted, got) = (others, more);
-    }
+    let (mut at, wanted, got) = without_front(at, wanted, got);
+    let (wanted, got) = without_end(wanted, got);
     for k in 0..wanted.len().max(got.len()) {
         let pair = (wanted.get(k), got.get(k));
         at = pair.0.map_or(at, |line| line.number);
         tell_pair(told, file, at, pair)?;
     }
     Ok(())
+}
+
+/// What is left behind the lines with which both begin, and the number of the last of these, or `at` where there is none.
+fn without_front<'a>(
+    mut at: u64,
+    mut wanted: &'a [Line<'a>],
+    mut got: &'a [Line<'a>],
+) -> (u64, &'a [Line<'a>], &'a [Line<'a>]) {
+    while let ([a, others @ ..], [b, more @ ..]) = (wanted, got)
+        && a.whole == b.whole
+    {
+        (at, wanted, got) = (a.number, others, more);
+    }
+    (at, wanted, got)
+}
+
+/// What is left before the lines with which both end.
+fn without_end<'a>(
+    mut wanted: &'a [Line<'a>],
+    mut got: &'a [Line<'a>],
+) -> (&'a [Line<'a>], &'a [Line<'a>]) {
+    while let ([others @ .., a], [more @ .., b]) = (wanted, got)
+        && a.whole == b.whole
+    {
+        (wanted, got) = (others, more);
+    }
+    (wanted, got)
 }
 
 /// Tells the lines that were wanted and got in one place, unless they are the same.

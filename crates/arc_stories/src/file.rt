@@ -2,7 +2,7 @@
 
 use crate::diff::{agrees, tell};
 use crate::fault::Fault;
-use crate::line::{Line, numbered};
+use crate::line::{Line, lines_of};
 use crate::run::{Ended, run};
 use crate::story::{Case, Story, read_story};
 use arc_bytes::Memory;
@@ -38,7 +38,7 @@ pub fn run_file(
             return println!(rt; "{path}: {error}");
         }
     };
-    let lines = numbered(rt.alloc(), &bytes, 1..u64::MAX)?;
+    let lines = lines_of(rt.alloc(), &bytes)?;
     let story = match read_story(rt.alloc(), &lines) {
         Ok(story) => story,
         Err(Fault::Memory) => return Err(no_memory(Memory)),

@@ -21,14 +21,10 @@ impl<'a> Line<'a> {
     }
 }
 
-/// The lines of these bytes, with the numbers that these are; as many lines as there are numbers.
-pub fn numbered<'a>(
-    alloc: Global,
-    bytes: &'a [u8],
-    numbers: impl Iterator<Item = u64> + Drop,
-) -> Result<Vec<Line<'a>>, AllocError> {
+/// The lines of these bytes.
+pub fn lines_of(alloc: Global, bytes: &[u8]) -> Result<Vec<Line<'_>>, AllocError> {
     let mut lines = Vec::new(alloc);
-    for (number, whole) in numbers.zip(bytes.split_inclusive(|byte| *byte == b'\n')) {
+    for (number, whole) in (1..u64::MAX).zip(bytes.split_inclusive(|byte| *byte == b'\n')) {
         lines.push(Line { number, whole })?;
     }
     Ok(lines)

@@ -5,7 +5,7 @@
 //! 2^64 - 1.
 
 use crate::fault::{Fault, Wrong};
-use crate::line::{Line, numbered};
+use crate::line::{Line, lines_of};
 use std::alloc::{AllocError, Global};
 
 /// Lines whose loops are unrolled.
@@ -20,7 +20,11 @@ pub struct Unrolled {
 impl Unrolled {
     /// The lines, numbered as in the file.
     pub fn lines(&self, alloc: Global) -> Result<Vec<Line<'_>>, AllocError> {
-        numbered(alloc, &self.bytes, self.numbers.iter().copied())
+        let mut lines = lines_of(alloc, &self.bytes)?;
+        for (line, number) in lines.iter_mut().zip(self.numbers.iter()) {
+            line.number = *number;
+        }
+        Ok(lines)
     }
 
     /// Adds the end of the line that was written behind the others.
