@@ -38,8 +38,13 @@ fn tell_lines(
     wanted: &[Line<'_>],
     got: &[Line<'_>],
 ) -> io::Result<()> {
-    let (mut at, wanted, got) = without_front(at, wanted, got);
-    let (wanted, got) = without_end(wanted, got);
+    let front = same_front(wanted, got);
+    let (same, wanted) = cut(wanted, front);
+    let (_, got) = cut(got, front);
+    let end = same_end(wanted, got);
+    let (wanted, _) = cut(wanted, wanted.len().saturating_sub(end));
+    let (got, _) = cut(got, got.len().saturating_sub(end));
+    let mut at = same.last().map_or(at, |line| line.number);
     for k in 0..wanted.len().max(got.len()) {
         let pair = (wanted.get(k), got.get(k));
         at = pair.0.map_or(at, |line| line.number);
@@ -48,31 +53,29 @@ fn tell_lines(
     Ok(())
 }
 
-/// What is left behind the lines with which both begin, and the number of the last of these, or `at` where there is none.
-fn without_front<'a>(
-    mut at: u64,
-    mut wanted: &'a [Line<'a>],
-    mut got: &'a [Line<'a>],
-) -> (u64, &'a [Line<'a>], &'a [Line<'a>]) {
-    while let ([a, others @ ..], [b, more @ ..]) = (wanted, got)
-        && a.whole == b.whole
-    {
-        (at, wanted, got) = (a.number, others, more);
+/// With how many lines that are the same both begin.
+fn same_front(wanted: &[Line<'_>], got: &[Line<'_>]) -> usize {
+    for (count, (a, b)) in wanted.iter().zip(got.iter()).enumerate() {
+        if a.whole != b.whole {
+            return count;
+        }
     }
-    (at, wanted, got)
+    wanted.len().min(got.len())
 }
 
-/// What is left before the lines with which both end.
-fn without_end<'a>(
-    mut wanted: &'a [Line<'a>],
-    mut got: &'a [Line<'a>],
-) -> (&'a [Line<'a>], &'a [Line<'a>]) {
-    while let ([others @ .., a], [more @ .., b]) = (wanted, got)
-        && a.whole == b.whole
-    {
-        (wanted, got) = (others, more);
+/// With how many lines that are the same both end.
+fn same_end(wanted: &[Line<'_>], got: &[Line<'_>]) -> usize {
+    for (count, (a, b)) in wanted.iter().rev().zip(got.iter().rev()).enumerate() {
+        if a.whole != b.whole {
+            return count;
+        }
     }
-    (wanted, got)
+    wanted.len().min(got.len())
+}
+
+/// The first lines, so many of them as there are, and the others.
+fn cut<'a>(lines: &'a [Line<'a>], many: usize) -> (&'a [Line<'a>], &'a [Line<'a>]) {
+    lines.split_at(many.min(lines.len()))
 }
 
 /// Tells the lines that were wanted and got in one place, unless they are the same.

@@ -1,5 +1,0 @@
-use Rattle.std.proofs.Common.{length}
-use Rattle.arc_stories.proofs.diff.without_end.Given as goal
-
-abbrev pub decreases-loop-wanted : goal.decreases-loop-wanted
-decreases-loop-wanted l = length l.wanted
