@@ -1,25 +1,12 @@
-//! The tests of `arc_batch`, `arc_shift`, `arc_practice`, `arc_precedence` and `arc_state`: what one plain cluster and its
-//! parts do, call by call.
+//! The tests of `arc_shift`, `arc_practice`, `arc_precedence` and `arc_state` that no story can replace.
 //!
-//! They stand apart from those crates, so that each of those libraries is proved once, and not again with its tests. Each
-//! tested crate has a module here, and reaches it by its public functions alone; `arc_state` has three: `state`, `runs` and
-//! `days`. What is asked of a state, and how its replies are shown, is said in `asks`. It exports nothing, and no promise
+//! They stand apart from those crates, so that each of those libraries is proved once, and not again with its tests. They
+//! reach them by their public functions alone: `parts` those of shifts, runs and their precedence, `reads` that of the
+//! state. Whatever a list of commands makes is told by the stories of `arc_stories`. It exports nothing, and no promise
 //! rests on it.
 #![tactic(auto)]
 
 #[cfg(test)]
-mod asks;
+mod parts;
 #[cfg(test)]
-mod batch;
-#[cfg(test)]
-mod days;
-#[cfg(test)]
-mod practice;
-#[cfg(test)]
-mod precedence;
-#[cfg(test)]
-mod runs;
-#[cfg(test)]
-mod shift;
-#[cfg(test)]
-mod state;
+mod reads;
