@@ -31,6 +31,3 @@ pub use outcome::{Failed, Memory};
 pub use sink::Sink;
 pub use source::Source;
 pub use stream::{StreamSink, StreamSource};
-
-#[cfg(test)]
-mod tests;

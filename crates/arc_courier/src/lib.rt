@@ -18,6 +18,3 @@ mod scripted;
 pub use courier::{Courier, Fate};
 pub use direct::Direct;
 pub use scripted::Scripted;
-
-#[cfg(test)]
-mod tests;

@@ -19,6 +19,3 @@ mod schedule;
 pub use arc_bytes::{Failed, Memory};
 pub use disk::{Disk, Rig, WriteEnd};
 pub use memory_disk::MemoryDisk;
-
-#[cfg(test)]
-mod tests;

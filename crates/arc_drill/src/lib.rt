@@ -20,6 +20,3 @@ mod top;
 
 pub use status::Status;
 pub use top::drill;
-
-#[cfg(test)]
-mod tests;

@@ -31,6 +31,3 @@ pub use laws::later_bytes_change_nothing;
 pub use reading::read_request;
 pub use view::RequestView;
 pub use writing::response;
-
-#[cfg(test)]
-mod tests;

@@ -16,6 +16,3 @@ mod shift_text;
 pub use command_id::CommandId;
 pub use named_id::{BadId, ControlId, PanelId, ResourceId, RuleId, ShiftId};
 pub use shift_text::shifts_are_read_again;
-
-#[cfg(test)]
-mod tests;

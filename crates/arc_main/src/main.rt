@@ -14,8 +14,6 @@ mod memory_outside;
 mod outside;
 mod run;
 mod standard;
-#[cfg(test)]
-mod tests;
 
 use crate::run::run;
 use crate::standard::{Standard, words_of};

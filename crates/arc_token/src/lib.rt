@@ -13,6 +13,3 @@ mod token;
 pub use digits::Digits;
 pub use number::number_of;
 pub use token::{BadToken, Token};
-
-#[cfg(test)]
-mod tests;

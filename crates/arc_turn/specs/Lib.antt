@@ -4,4 +4,3 @@ pub mod Steps
 pub mod Known
 pub mod Passes
 pub mod Holding
-pub mod Numbers

@@ -49,6 +49,3 @@ pub use held::Held;
 pub use historied::Historied;
 pub use pass::Pass;
 pub use turn::Turn;
-
-#[cfg(test)]
-mod tests;

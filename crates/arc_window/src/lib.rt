@@ -16,6 +16,3 @@ mod weekly;
 pub use blocking::{BlockedBy, blocked, weeks_follow_the_calendar};
 pub use date::{DateEnd, read_date};
 pub use weekly::{BadWindow, Window, read_window};
-
-#[cfg(test)]
-mod tests;

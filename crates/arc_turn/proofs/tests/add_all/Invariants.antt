@@ -1,7 +1,0 @@
-use Rattle.std.proofs.Common.{◌<◌}
-use Rattle.arc_turn.specs.Known.{IsFree}
-use Rattle.arc_turn.proofs.tests.add_all.Given as goal
-
--- the pass stays free, and of this turn
-abbrev pub invariant-loop-i : goal.invariant-loop-i
-invariant-loop-i g l = IsFree l.turn l.pass × (l.thread < 4)
