@@ -1,6 +1,6 @@
 //! Why a command was refused, as JSON.
 ghost use Rattle.std.specs.Prelude.{◌≡◌, IfOk, codes, string_bytes};
-ghost use Rattle.serde_json.specs.Data.{member, no_members, object, string};
+ghost use Rattle.serde_json.specs.Data.{member, no_members, object, put as with_member, string};
 ghost use Rattle.serde_json.specs.View.{view};
 ghost use Rattle.arc_json.specs.Refusal.{about, cause_value, forbidden_value, refusal_status, refusal_value};
 ghost use Rattle.arc_json.specs.Words.{named_text};
@@ -8,7 +8,7 @@ ghost use Rattle.arc_json.specs.Words.{named_text};
 use crate::members::{Shown, put_number, three_texts, two_texts, values};
 use crate::words::{word_of_block, word_of_kind, word_of_status};
 use arc_bytes::Memory;
-use arc_data::{BlockCause, Cause, Forbidden, Kind, Named, Refusal, Status, ZoneName};
+use arc_data::{Cause, Forbidden, Named, Refusal};
 use serde_json::{Map, Value, put};
 use std::alloc::{AllocError, Global};
 
@@ -17,6 +17,9 @@ const CONFLICT: &str = "ConflictException";
 
 /// The type of a refusal for which something isn't there.
 const MISSING: &str = "ResourceNotFoundException";
+
+/// The type of a refusal for which something that was asked doesn't fit.
+const INVALID: &str = "ValidationException";
 
 /// The status of a refusal, in the numbers of HTTP.
 pub fn http_status(refusal: &Refusal) -> u16
@@ -52,10 +55,25 @@ pub fn refusal_json(alloc: Global, refusal: &Refusal) -> Result<Value, Memory>
             about_json(alloc, "Enabled", Named::Resource(*resource), CONFLICT)
         }
         Refusal::Started { zone } => about_json(alloc, "Started", Named::Zone(*zone), CONFLICT),
-        Refusal::NotActive { status } => not_active_json(alloc, *status),
-        Refusal::Busy { by } => busy_json(alloc, *by),
-        Refusal::WrongZone { zone } => wrong_zone_json(alloc, *zone),
-        Refusal::Blocked { cause } => blocked_json(alloc, *cause),
+        Refusal::NotActive { status } => told_json(
+            alloc,
+            "NotActive",
+            ("Status", word_of_status(*status)),
+            CONFLICT,
+        ),
+        Refusal::Busy { by } => told_json(alloc, "Busy", ("By", word_of_kind(*by)), CONFLICT),
+        Refusal::WrongZone { zone } => told_json(
+            alloc,
+            "WrongZone",
+            ("AwayFrom", zone.as_str()),
+            INVALID,
+        ),
+        Refusal::Blocked { cause } => told_json(
+            alloc,
+            "Blocked",
+            ("Cause", word_of_block(*cause)),
+            CONFLICT,
+        ),
     }
 }
 
@@ -64,11 +82,20 @@ fn about_json(alloc: Global, reason: &str, id: Named, kind: &str) -> Result<Valu
     ensures { IfOk result (λ v. view v ≡ about reason.now (named_text id) kind.now) }
 {
     let name = named(alloc, id)?;
+    told_json(alloc, reason, ("Resource", name.as_str()), kind)
+}
+
+/// A refusal that tells one thing more, by its name.
+fn told_json(alloc: Global, reason: &str, more: (&str, &str), kind: &str) -> Result<Value, Memory>
+    ensures { IfOk result (λ v. view v ≡ object (with_member (codes "__type") (string kind.now)
+        (with_member (codes "Reason") (string reason.now)
+        (member more.entry.0.now (string more.entry.1.now) no_members)))) }
+{
     three_texts(
         alloc,
         Map::new(alloc),
+        more,
         ("Reason", reason),
-        ("Resource", name.as_str()),
         ("__type", kind),
     )
 }
@@ -92,54 +119,6 @@ fn limit_json(alloc: Global, count: u32) -> Result<Value, Memory>
         map,
         ("Reason", "Limit"),
         ("__type", "ServiceLimitExceededException"),
-    )
-}
-
-fn not_active_json(alloc: Global, status: Status) -> Result<Value, Memory>
-    ensures { IfOk result (λ v. view v ≡ refusal_value (Refusal.NotActive status)) }
-{
-    three_texts(
-        alloc,
-        Map::new(alloc),
-        ("Reason", "NotActive"),
-        ("Status", word_of_status(status)),
-        ("__type", CONFLICT),
-    )
-}
-
-fn busy_json(alloc: Global, by: Kind) -> Result<Value, Memory>
-    ensures { IfOk result (λ v. view v ≡ refusal_value (Refusal.Busy by)) }
-{
-    three_texts(
-        alloc,
-        Map::new(alloc),
-        ("By", word_of_kind(by)),
-        ("Reason", "Busy"),
-        ("__type", CONFLICT),
-    )
-}
-
-fn wrong_zone_json(alloc: Global, zone: ZoneName) -> Result<Value, Memory>
-    ensures { IfOk result (λ v. view v ≡ refusal_value (Refusal.WrongZone zone)) }
-{
-    three_texts(
-        alloc,
-        Map::new(alloc),
-        ("AwayFrom", zone.as_str()),
-        ("Reason", "WrongZone"),
-        ("__type", "ValidationException"),
-    )
-}
-
-fn blocked_json(alloc: Global, cause: BlockCause) -> Result<Value, Memory>
-    ensures { IfOk result (λ v. view v ≡ refusal_value (Refusal.Blocked cause)) }
-{
-    three_texts(
-        alloc,
-        Map::new(alloc),
-        ("Cause", word_of_block(cause)),
-        ("Reason", "Blocked"),
-        ("__type", CONFLICT),
     )
 }
 
