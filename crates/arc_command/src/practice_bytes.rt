@@ -1,18 +1,17 @@
 //! The bytes of operations on practice runs.
-ghost use Rattle.std.specs.Prelude.{◌≡◌, ◌≤◌, ◌++◌, IfSome, OnOk, length};
+ghost use Rattle.std.specs.Prelude.{◌≡◌, ◌<◌, ◌≤◌, ◌++◌, ◌^◌, All, IfSome, OnOk, length};
+ghost use Rattle.std.specs.List.{AllByRecursion};
 ghost use Rattle.std.specs.Str.{IsUtf8};
 ghost use Rattle.arc_command.specs.Reader.{option_at, list_at};
-ghost use Rattle.arc_command.specs.Reading.{Gives, dates_at, windows_at, blocking_at, outcome_at, practice_config_at, practice_change_at, create_practice_run_configuration_at, update_practice_run_configuration_at, start_practice_run_at, set_alarm_state_at};
-ghost use Rattle.arc_command.specs.Spelling.{text_bytes, texts_bytes, dates_bytes, windows_bytes, option_bytes, resource_bytes, practice_config_bytes, practice_change_bytes};
-ghost use Rattle.arc_command.specs.Typed.{AreTexts, IsTypedConfig, IsTypedChange, IsTypedResource, IsTypedZone};
-ghost use Rattle.arc_data.specs.Valid.{IsComment, IsConfig, IsChange, AreDates, AreWindows, AreBlocking, AreOutcome};
+ghost use Rattle.arc_command.specs.Reading.{Gives, practice_config_at, practice_change_at, create_practice_run_configuration_at, update_practice_run_configuration_at, start_practice_run_at, set_alarm_state_at};
+ghost use Rattle.arc_command.specs.Spelling.{text_bytes, list_bytes, option_bytes, resource_bytes, practice_config_bytes, practice_change_bytes};
+ghost use Rattle.arc_command.specs.Typed.{IsTypedConfig, IsTypedChange, IsTypedResource, IsTypedZone};
+ghost use Rattle.arc_data.specs.Valid.{IsComment, IsConfig, IsChange};
 ghost use Rattle.arc_bytes.specs.Adding.{Adds};
 
-use crate::field::{put_list, put_text, read_list, read_text};
+use crate::field::{Field, put_list, put_text, read_list, read_text};
 use crate::fields::{put_resource, put_switch, put_zone, read_resource, read_switch, read_zone};
-use crate::{
-    CommandEnd, List, Op, PracticeChange, PracticeConfig, ResourceId, Text, Window, ZoneName,
-};
+use crate::{CommandEnd, List, Op, PracticeChange, PracticeConfig, ResourceId, Text, ZoneName};
 use arc_bytes::Memory;
 use std::alloc::Global;
 
@@ -51,134 +50,40 @@ fn read_practice_config(
     Ok((config, at))
 }
 
-/// Puts the blocked dates at the end, where they are given.
+/// Puts a list at the end, where one is given.
 #[tactic(auto, unfolding(crate::specs::Spelling::option_bytes))]
-fn put_given_dates(out: &mut Vec<u8>, dates: &Option<List<u32>>) -> Result<(), Memory>
-    requires { IfSome dates.now AreDates }
-    ensures { Adds out.old out.new (option_bytes dates_bytes dates.now) result }
+fn put_given_list<T: Field>(out: &mut Vec<u8>, items: &Option<List<T>>) -> Result<(), Memory>
+    requires count { IfSome items.now (λ items. length items < 2 ^ 16) }
+    requires short { IfSome items.now (All T.IsShort) }
+    ensures adds { Adds out.old out.new (option_bytes (list_bytes T.spelling) items.now) result }
+    ensures typed { OnOk result (IfSome items.now (AllByRecursion T.IsTyped)) }
 {
-    match dates {
-        Some(dates) => {
+    match items {
+        Some(items) => {
             put_switch(out, true)?;
-            put_list(out, dates)
+            put_list(out, items)
         }
         None => put_switch(out, false),
     }
 }
 
-/// The blocked dates, where they are given.
+/// A list with so few and so many items, where one is given.
 #[tactic(auto, unfolding(crate::specs::Reader::option_at))]
-fn read_given_dates(
+fn read_given_list<T: Field>(
     alloc: Global,
     bytes: &[u8],
     at: usize,
-) -> Result<(Option<List<u32>>, usize), CommandEnd>
-    ensures { Gives result (option_at dates_at bytes.now at) }
+    least: u16,
+    most: u16,
+) -> Result<(Option<List<T>>, usize), CommandEnd>
+    ensures { Gives result (option_at (list_at least most T.reading) bytes.now at) }
 {
     let (given, at) = read_switch(bytes, at)?;
     if !given {
         return Ok((None, at));
     }
-    let (dates, at) = read_list(alloc, bytes, at, 0, 15)?;
-    Ok((Some(dates), at))
-}
-
-/// Puts the blocked windows at the end, where they are given.
-#[tactic(auto, unfolding(crate::specs::Spelling::option_bytes))]
-fn put_given_windows(out: &mut Vec<u8>, windows: &Option<List<Window>>) -> Result<(), Memory>
-    requires { IfSome windows.now AreWindows }
-    ensures { Adds out.old out.new (option_bytes windows_bytes windows.now) result }
-{
-    match windows {
-        Some(windows) => {
-            put_switch(out, true)?;
-            put_list(out, windows)
-        }
-        None => put_switch(out, false),
-    }
-}
-
-/// The blocked windows, where they are given.
-#[tactic(auto, unfolding(crate::specs::Reader::option_at))]
-fn read_given_windows(
-    alloc: Global,
-    bytes: &[u8],
-    at: usize,
-) -> Result<(Option<List<Window>>, usize), CommandEnd>
-    ensures { Gives result (option_at windows_at bytes.now at) }
-{
-    let (given, at) = read_switch(bytes, at)?;
-    if !given {
-        return Ok((None, at));
-    }
-    let (windows, at) = read_list(alloc, bytes, at, 0, 15)?;
-    Ok((Some(windows), at))
-}
-
-/// Puts the blocking alarms at the end, where they are given.
-#[tactic(auto, unfolding(crate::specs::Spelling::option_bytes))]
-fn put_given_blocking(out: &mut Vec<u8>, alarms: &Option<List<Text>>) -> Result<(), Memory>
-    requires { IfSome alarms.now AreBlocking }
-    ensures adds { Adds out.old out.new (option_bytes texts_bytes alarms.now) result }
-    ensures typed { OnOk result (IfSome alarms.now AreTexts) }
-{
-    match alarms {
-        Some(alarms) => {
-            put_switch(out, true)?;
-            put_list(out, alarms)
-        }
-        None => put_switch(out, false),
-    }
-}
-
-/// The blocking alarms, where they are given.
-#[tactic(auto, unfolding(crate::specs::Reader::option_at))]
-fn read_given_blocking(
-    alloc: Global,
-    bytes: &[u8],
-    at: usize,
-) -> Result<(Option<List<Text>>, usize), CommandEnd>
-    ensures { Gives result (option_at blocking_at bytes.now at) }
-{
-    let (given, at) = read_switch(bytes, at)?;
-    if !given {
-        return Ok((None, at));
-    }
-    let (alarms, at) = read_list(alloc, bytes, at, 0, 4)?;
-    Ok((Some(alarms), at))
-}
-
-/// Puts the outcome alarms at the end, where they are given.
-#[tactic(auto, unfolding(crate::specs::Spelling::option_bytes))]
-fn put_given_outcome(out: &mut Vec<u8>, alarms: &Option<List<Text>>) -> Result<(), Memory>
-    requires { IfSome alarms.now AreOutcome }
-    ensures adds { Adds out.old out.new (option_bytes texts_bytes alarms.now) result }
-    ensures typed { OnOk result (IfSome alarms.now AreTexts) }
-{
-    match alarms {
-        Some(alarms) => {
-            put_switch(out, true)?;
-            put_list(out, alarms)
-        }
-        None => put_switch(out, false),
-    }
-}
-
-/// The outcome alarms, where they are given.
-#[tactic(auto, unfolding(crate::specs::Reader::option_at))]
-fn read_given_outcome(
-    alloc: Global,
-    bytes: &[u8],
-    at: usize,
-) -> Result<(Option<List<Text>>, usize), CommandEnd>
-    ensures { Gives result (option_at outcome_at bytes.now at) }
-{
-    let (given, at) = read_switch(bytes, at)?;
-    if !given {
-        return Ok((None, at));
-    }
-    let (alarms, at) = read_list(alloc, bytes, at, 1, 4)?;
-    Ok((Some(alarms), at))
+    let (items, at) = read_list(alloc, bytes, at, least, most)?;
+    Ok((Some(items), at))
 }
 
 /// Puts a change of a configuration at the end.
@@ -188,10 +93,10 @@ pub(crate) fn put_practice_change(out: &mut Vec<u8>, change: &PracticeChange) ->
     ensures adds { Adds out.old out.new (practice_change_bytes change.now) result }
     ensures typed { OnOk result (IsTypedChange change.now) }
 {
-    put_given_dates(out, &change.blocked_dates)?;
-    put_given_windows(out, &change.blocked_windows)?;
-    put_given_blocking(out, &change.blocking_alarms)?;
-    put_given_outcome(out, &change.outcome_alarms)
+    put_given_list(out, &change.blocked_dates)?;
+    put_given_list(out, &change.blocked_windows)?;
+    put_given_list(out, &change.blocking_alarms)?;
+    put_given_list(out, &change.outcome_alarms)
 }
 
 /// A change of a configuration.
@@ -203,10 +108,10 @@ fn read_practice_change(
 ) -> Result<(PracticeChange, usize), CommandEnd>
     ensures { Gives result (practice_change_at bytes.now at) }
 {
-    let (blocked_dates, at) = read_given_dates(alloc, bytes, at)?;
-    let (blocked_windows, at) = read_given_windows(alloc, bytes, at)?;
-    let (blocking_alarms, at) = read_given_blocking(alloc, bytes, at)?;
-    let (outcome_alarms, at) = read_given_outcome(alloc, bytes, at)?;
+    let (blocked_dates, at) = read_given_list(alloc, bytes, at, 0, 15)?;
+    let (blocked_windows, at) = read_given_list(alloc, bytes, at, 0, 15)?;
+    let (blocking_alarms, at) = read_given_list(alloc, bytes, at, 0, 4)?;
+    let (outcome_alarms, at) = read_given_list(alloc, bytes, at, 1, 4)?;
     let change = PracticeChange {
         blocked_dates,
         blocked_windows,

@@ -62,6 +62,21 @@ members_of_shift item =
     member (codes "status") (string (shift_word item.status)) (
     member (codes "zonalShiftId") (string (shift_text item.id)) no_members))))))
 
+-- those of them that are times
+abbrev pub times_of : ℕ → ℕ → Members
+times_of start expiry =
+    member (codes "expiryTime") (number (unsigned expiry)) (
+    member (codes "startTime") (number (unsigned start)) no_members)
+
+-- those of them that are texts, put beside these members
+abbrev pub with_texts_of : ShiftItem → Members → Members
+with_texts_of item members =
+    put (codes "zonalShiftId") (string (shift_text item.id)) (
+    put (codes "status") (string (shift_word item.status)) (
+    put (codes "resourceIdentifier") (string (resource_text item.resource)) (
+    put (codes "comment") (string item.comment) (
+    put (codes "awayFrom") (string item.away_from) members))))
+
 -- a shift, or a practice run with its outcome
 abbrev pub shift_with : ShiftItem → Option Outcome → Data
 shift_with item None = object (members_of_shift item)

@@ -23,6 +23,5 @@ mod shift_ops;
 mod words;
 
 pub use arc_members::{Code, RequestEnd};
-pub use operation::Operation;
 pub use reply::reply_text;
 pub use request::read_op;

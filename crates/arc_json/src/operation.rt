@@ -3,8 +3,8 @@ ghost use Rattle.std.specs.Prelude.{◌≡◌, map};
 ghost use Rattle.arc_json.specs.Operations.{beside, operation_of};
 
 /// An operation, without what it is asked to do.
-#[derive(Clone, Copy, Debug, PartialEq, Eq)]
-pub enum Operation {
+#[derive(Clone, Copy)]
+pub(crate) enum Operation {
     CreateControlPanel,
     DeleteControlPanel,
     CreateRoutingControl,

@@ -1,8 +1,0 @@
-use Rattle.std.proofs.Common.{◌≡◌, map, take}
-use Rattle.serde_json.specs.View.{view}
-use Rattle.arc_json.specs.Done.{control_value}
-use Rattle.arc_json.proofs.routing_body.control_items.Given as goal
-
--- the values so far are those of the first ones
-abbrev pub invariant-loop-item : goal.invariant-loop-item
-invariant-loop-item l = map view l.values.items ≡ map control_value (take l.item-index l.items)
