@@ -5,7 +5,7 @@ ghost use Rattle.arc_acceptor.specs.Answering.{progress_of};
 use arc_data::{Record, closed_len, promise};
 
 /// How far a list of entries has come: what most messages are answered by.
-#[derive(Clone, Copy, Debug, PartialEq, Eq)]
+#[derive(Clone, Copy, PartialEq, Eq)]
 pub struct Progress {
     /// How many commands the entries close slots with.
     pub length: u32,

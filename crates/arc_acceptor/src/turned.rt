@@ -3,7 +3,7 @@
 use arc_data::{Answer, Record};
 
 /// What is to be appended to the journal, and then answered.
-#[derive(Debug, Drop)]
+#[derive(Drop)]
 pub struct Turned {
     /// The entry that has to be on the disk before the answer goes out, if there is one.
     pub append: Option<Record>,

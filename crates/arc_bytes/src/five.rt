@@ -5,7 +5,7 @@ ghost use Rattle.arc_bytes.specs.Five.{at};
 ghost use Rattle.arc_bytes.specs.Lending.{LendsNode};
 
 /// Five values, one for each node.
-#[derive(Debug, Drop)]
+#[derive(Drop)]
 pub struct Five<T> {
     pub d0: T,
     pub d1: T,

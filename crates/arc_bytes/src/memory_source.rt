@@ -9,7 +9,7 @@ use crate::{Failed, Source};
 use std::marker::Model;
 
 /// A source over bytes in memory, of which chosen calls fail. It tells everything.
-#[derive(Debug, Drop)]
+#[derive(Drop)]
 pub struct MemorySource {
     bytes: Vec<u8>,
     at: usize,

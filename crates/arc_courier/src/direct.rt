@@ -5,7 +5,7 @@ ghost use Rattle.arc_courier.specs.Courier.{Counts, GoesOnCounting, is_trouble};
 use crate::{Courier, Fate};
 
 /// A courier that lets each exchange happen: it meets no trouble, and is silent to nobody.
-#[derive(Clone, Copy, Debug, Drop)]
+#[derive(Clone, Copy, Drop)]
 pub struct Direct;
 
 impl Courier for Direct {

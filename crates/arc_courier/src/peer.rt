@@ -10,7 +10,7 @@ use std::marker::Model;
 const MOST_FATES: usize = 64;
 
 /// A pattern of fates, and what was counted.
-#[derive(Debug, Drop)]
+#[derive(Drop)]
 pub(crate) struct Peer {
     /// The fates of the pattern, and others behind them.
     fates: [Fate; MOST_FATES],

@@ -11,7 +11,7 @@ use std::marker::Model;
 
 /// A courier whose fates are chosen for each peer, beforehand: a pattern that comes once, or one that cycles. Where
 /// none is left, the exchange happens.
-#[derive(Debug, Drop)]
+#[derive(Drop)]
 pub struct Scripted {
     peers: Five<Peer>,
 }

@@ -6,7 +6,7 @@ use arc_bytes::Memory;
 use std::alloc::Global;
 
 /// A change of one control.
-#[derive(Clone, Copy, Debug, PartialEq, Eq)]
+#[derive(Clone, Copy, PartialEq, Eq)]
 pub struct Entry {
     pub control: ControlId,
     /// `true` for On.
@@ -14,7 +14,7 @@ pub struct Entry {
 }
 
 /// Changes that are made together or not at all.
-#[derive(Debug, Drop)]
+#[derive(Drop)]
 pub struct Batch {
     /// The changes, each of another control.
     pub entries: List<Entry>,

@@ -6,7 +6,7 @@ use arc_bytes::Memory;
 use std::alloc::Global;
 
 /// An operation with the call that it came from.
-#[derive(Debug, Drop)]
+#[derive(Drop)]
 pub struct Command {
     pub id: CommandId,
     /// When the call came, in milliseconds since 1970-01-01, at most `MAX_MS`.

@@ -6,7 +6,7 @@ use arc_bytes::Memory;
 use std::alloc::Global;
 
 /// A message to a node, after Lamport, "Paxos Made Simple", section 2.2.
-#[derive(Debug, Drop)]
+#[derive(Drop)]
 pub enum Message {
     /// Asks how long the node's list is, what it has promised, and which command it closed at this slot.
     Status {
@@ -31,7 +31,7 @@ pub enum Message {
 }
 
 /// What a node answers to a message.
-#[derive(Debug, Drop)]
+#[derive(Drop)]
 pub enum Answer {
     /// To a status: the length of the node's list, its promise, and the command that it closed at the slot.
     At {

@@ -6,7 +6,7 @@ use crate::{
 };
 
 /// What a command asks for. The operations have the numbers 1 to 28 in this order.
-#[derive(Debug, Drop)]
+#[derive(Drop)]
 pub enum Op {
     /// Makes a control panel.
     CreateControlPanel {

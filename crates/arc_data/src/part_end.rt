@@ -8,7 +8,7 @@ use arc_bytes::Memory;
 use std::alloc::{AllocError, AllocFailed};
 
 /// Why a call of a part of the state did nothing.
-#[derive(Debug, Drop)]
+#[derive(Drop)]
 pub enum PartEnd {
     /// It was refused.
     Refused(Refusal),

@@ -8,7 +8,7 @@ use arc_window::Window;
 use std::alloc::Global;
 
 /// What ended a practice run before its 30 minutes were over.
-#[derive(Clone, Copy, Debug, PartialEq, Eq)]
+#[derive(Clone, Copy, PartialEq, Eq)]
 pub enum Ending {
     /// One of its outcome alarms was set red.
     Alarm,
@@ -17,7 +17,7 @@ pub enum Ending {
 }
 
 /// A practice run. It keeps the outcome alarms with which it started. Times are in milliseconds of list time.
-#[derive(Debug, Drop)]
+#[derive(Drop)]
 pub struct Run {
     pub id: ShiftId,
     pub resource: ResourceId,
@@ -31,7 +31,7 @@ pub struct Run {
 }
 
 /// What doesn't let a practice run start, in the order in which it is looked for.
-#[derive(Clone, Copy, Debug, PartialEq, Eq)]
+#[derive(Clone, Copy, PartialEq, Eq)]
 pub enum BlockCause {
     BlockedDate,
     BlockedWindow,
@@ -42,7 +42,7 @@ pub enum BlockCause {
 }
 
 /// When practice runs of a resource don't start, and what makes them fail.
-#[derive(Debug, Drop)]
+#[derive(Drop)]
 pub struct PracticeConfig {
     /// Numbers of days from 1970-01-01 on.
     pub blocked_dates: List<u32>,
@@ -52,7 +52,7 @@ pub struct PracticeConfig {
 }
 
 /// A change of a configuration: what is given replaces.
-#[derive(Debug, Drop)]
+#[derive(Drop)]
 pub struct PracticeChange {
     pub blocked_dates: Option<List<u32>>,
     pub blocked_windows: Option<List<Window>>,
@@ -61,7 +61,7 @@ pub struct PracticeChange {
 }
 
 /// A resource's configuration of practice runs, as it is kept.
-#[derive(Debug, Drop)]
+#[derive(Drop)]
 pub struct Configured {
     pub resource: ResourceId,
     pub config: PracticeConfig,

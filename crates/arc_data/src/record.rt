@@ -6,7 +6,7 @@ use arc_bytes::Memory;
 use std::alloc::Global;
 
 /// An entry of a node's journal.
-#[derive(Debug, Drop)]
+#[derive(Drop)]
 pub enum Record {
     /// The node was started, for the time with this number, counted from 1.
     Opened {

@@ -5,7 +5,7 @@ use crate::{
 };
 
 /// A control as replies show it.
-#[derive(Debug, Drop)]
+#[derive(Drop)]
 pub struct ControlItem {
     pub panel: PanelId,
     pub control: ControlId,
@@ -15,7 +15,7 @@ pub struct ControlItem {
 }
 
 /// Something that has an identifier.
-#[derive(Clone, Copy, Debug, PartialEq, Eq)]
+#[derive(Clone, Copy, PartialEq, Eq)]
 pub enum Named {
     Panel(PanelId),
     Control(ControlId),
@@ -26,7 +26,7 @@ pub enum Named {
 }
 
 /// Why a command changed nothing but list time and the number of commands.
-#[derive(Debug, Drop)]
+#[derive(Drop)]
 pub enum Refusal {
     /// The caller's token is above the place of the command in the list.
     TokenAhead { token: u64, place: u64 },
@@ -59,7 +59,7 @@ pub enum Refusal {
 }
 
 /// What a command that was done answers.
-#[derive(Debug, Drop)]
+#[derive(Drop)]
 pub enum Body {
     /// Nothing beside that it was done.
     Empty,
@@ -124,7 +124,7 @@ pub enum Body {
 }
 
 /// The answer to a command at its place in the list.
-#[derive(Debug, Drop)]
+#[derive(Drop)]
 pub enum Reply {
     Done(Body),
     Refused(Refusal),

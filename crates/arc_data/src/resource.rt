@@ -3,7 +3,7 @@
 use crate::{List, ResourceId, Text, ZoneName};
 
 /// A managed resource.
-#[derive(Debug, Drop)]
+#[derive(Drop)]
 pub struct Resource {
     pub id: ResourceId,
     pub name: Text,
@@ -14,7 +14,7 @@ pub struct Resource {
 }
 
 /// A resource as the list of resources shows it.
-#[derive(Debug, Drop)]
+#[derive(Drop)]
 pub struct ResourceItem {
     pub name: Text,
     pub resource: ResourceId,

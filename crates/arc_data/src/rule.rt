@@ -17,7 +17,7 @@ pub enum RuleKind {
 }
 
 /// How a rule is evaluated.
-#[derive(Clone, Copy, Debug, PartialEq, Eq)]
+#[derive(Clone, Copy, PartialEq, Eq)]
 pub struct RuleConfig {
     pub kind: RuleKind,
     /// From 1 to the number of controls for `AtLeast`, and 0 for the others, which don't look at it.
@@ -27,7 +27,7 @@ pub struct RuleConfig {
 }
 
 /// What a safety rule is made of.
-#[derive(Debug, Drop)]
+#[derive(Drop)]
 pub struct RuleSpec {
     pub name: Text,
     pub panel: PanelId,
@@ -41,7 +41,7 @@ pub struct RuleSpec {
 }
 
 /// A rule as replies show it.
-#[derive(Debug, Drop)]
+#[derive(Drop)]
 pub struct RuleItem {
     pub name: Text,
     pub rule: RuleId,
@@ -51,7 +51,7 @@ pub struct RuleItem {
 }
 
 /// Why a rule forbids a batch.
-#[derive(Clone, Copy, Debug, PartialEq, Eq)]
+#[derive(Clone, Copy, PartialEq, Eq)]
 pub enum Cause {
     /// The assertion would be false after the batch.
     AssertFalse,
@@ -62,7 +62,7 @@ pub enum Cause {
 }
 
 /// A rule that forbids a batch, and why.
-#[derive(Clone, Copy, Debug, PartialEq, Eq)]
+#[derive(Clone, Copy, PartialEq, Eq)]
 pub struct Forbidden {
     pub rule: RuleId,
     pub cause: Cause,

@@ -25,7 +25,7 @@ pub enum Kind {
 }
 
 /// A shift that the customer started. Times are in milliseconds of list time.
-#[derive(Debug, Drop)]
+#[derive(Drop)]
 pub struct Shift {
     pub id: ShiftId,
     pub resource: ResourceId,
@@ -40,7 +40,7 @@ pub struct Shift {
 }
 
 /// A shift or a practice run as replies show it.
-#[derive(Debug, Drop)]
+#[derive(Drop)]
 pub struct ShiftItem {
     pub id: ShiftId,
     pub resource: ResourceId,

@@ -1,7 +1,7 @@
 //! What changes a disk.
 
 /// What changed a disk in memory, with what the clock said afterwards.
-#[derive(Debug, Drop)]
+#[derive(Drop)]
 pub(crate) enum Event {
     /// These bytes were written.
     Write {

@@ -12,7 +12,7 @@ use std::alloc::{AllocError, Global};
 use std::marker::Model;
 
 /// The bytes that a disk had at first, what happened to it since, and how it stands now.
-#[derive(Debug, Drop)]
+#[derive(Drop)]
 pub(crate) struct History {
     alloc: Global,
     first: Vec<u8>,

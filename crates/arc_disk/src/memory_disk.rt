@@ -18,7 +18,7 @@ use std::alloc::Global;
 ///
 /// It keeps each write with its bytes, and each sync and crash, from which it follows what a crash at any moment
 /// might have left.
-#[derive(Debug, Drop)]
+#[derive(Drop)]
 pub struct MemoryDisk {
     history: History,
     schedule: Schedule,

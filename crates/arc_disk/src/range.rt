@@ -1,7 +1,7 @@
 //! A range of bytes of a disk.
 
 /// A range that was written and not synced.
-#[derive(Clone, Copy, Debug, PartialEq, Eq)]
+#[derive(Clone, Copy, PartialEq, Eq)]
 pub(crate) struct Range {
     /// The place of its first byte.
     pub at: usize,

@@ -5,7 +5,7 @@ ghost use Rattle.arc_disk.specs.declared.schedule.Arming.TheVariants.{Unarmed};
 ghost use Rattle.arc_disk.specs.Schedule.{after_stop, after_turn, due, fill_of, nearer};
 
 /// The stop that is set.
-#[derive(Clone, Copy, Debug, PartialEq, Eq)]
+#[derive(Clone, Copy, PartialEq, Eq)]
 pub(crate) enum Arming {
     /// None.
     Unarmed,
@@ -16,7 +16,7 @@ pub(crate) enum Arming {
 }
 
 /// What becomes of a device call.
-#[derive(Clone, Copy, Debug, PartialEq, Eq)]
+#[derive(Clone, Copy, PartialEq, Eq)]
 pub(crate) enum Turn {
     /// It is done.
     Goes,
@@ -27,7 +27,7 @@ pub(crate) enum Turn {
 }
 
 /// The device calls that are to fail, the stop that is set, and the count of faults.
-#[derive(Debug, Drop)]
+#[derive(Drop)]
 pub(crate) struct Schedule {
     pub failing: Vec<u64>,
     pub arming: Arming,

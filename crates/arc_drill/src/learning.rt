@@ -14,7 +14,7 @@ use arc_node::{HandleEnd, Node};
 use std::alloc::Global;
 
 /// How it ended that a node was told a command.
-#[derive(Clone, Copy, Debug)]
+#[derive(Clone, Copy)]
 pub(crate) enum Learned {
     /// The command stands in the node's list, and on its disk.
     Done,

@@ -11,7 +11,7 @@ use arc_node::{Node, Restart};
 use std::alloc::Global;
 
 /// How a start ended.
-#[derive(Clone, Copy, Debug)]
+#[derive(Clone, Copy)]
 pub(crate) enum Start {
     /// The node is up, for the time with this number.
     Up { inc: u32 },

@@ -15,7 +15,7 @@ use sha2::{Digest, Sha256};
 use std::alloc::Global;
 
 /// Why a body was not read.
-#[derive(Clone, Copy, Debug, PartialEq, Eq)]
+#[derive(Clone, Copy, PartialEq, Eq)]
 pub(crate) enum BodyEnd {
     /// It spells no record.
     NoRecord,

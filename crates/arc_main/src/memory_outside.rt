@@ -10,7 +10,7 @@ use std::marker::Model;
 use std::mem;
 
 /// An outside with standard input in memory, of which chosen calls fail. It tells everything.
-#[derive(Debug, Drop)]
+#[derive(Drop)]
 pub struct MemoryOutside {
     input: Vec<u8>,
     failing: Vec<u64>,

@@ -3,7 +3,7 @@
 use arc_data::Answer;
 
 /// How the handling of a message ends.
-#[derive(Debug, Drop)]
+#[derive(Drop)]
 pub enum HandleEnd {
     /// The node answers. What it appended is on its disk.
     Answered(Answer),

@@ -19,7 +19,7 @@ pub struct ShiftsView<'a> {
 }
 
 /// The shift that is applied, and the zone from which it moves traffic away.
-#[derive(Clone, Copy, Debug, PartialEq, Eq)]
+#[derive(Clone, Copy, PartialEq, Eq)]
 pub struct Applied {
     pub kind: Kind,
     pub zone: ZoneName,

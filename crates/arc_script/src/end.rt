@@ -6,7 +6,7 @@ use crate::ScriptCode;
 use std::alloc::{AllocError, AllocFailed};
 
 /// Why a line wasn't read.
-#[derive(Clone, Copy, Debug, PartialEq, Eq)]
+#[derive(Clone, Copy, PartialEq, Eq)]
 pub enum LineEnd {
     /// The first test that it fails.
     Bad(ScriptCode),

@@ -14,7 +14,7 @@ pub struct Head {
 }
 
 /// One step of a drill.
-#[derive(Debug, Drop)]
+#[derive(Drop)]
 pub enum Step {
     /// How many commands the list may hold. Only the first step says so.
     Slots {

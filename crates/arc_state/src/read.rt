@@ -13,7 +13,7 @@ use arc_data::{Body, ControlId, List, Named, Op, PanelId, Reply, ResourceId, Sta
 use std::alloc::Global;
 
 /// An operation that changes nothing but list time.
-#[derive(Clone, Copy, Debug)]
+#[derive(Clone, Copy)]
 pub enum ReadOp {
     /// Lists the controls of one panel, or of all.
     ListRoutingControls {

@@ -12,7 +12,7 @@ use arc_shift::{Shifts, status};
 const MOST_SHIFTS: usize = 1_024;
 
 /// What is forgotten to make room.
-#[derive(Clone, Copy, Debug, PartialEq, Eq)]
+#[derive(Clone, Copy, PartialEq, Eq)]
 pub(crate) enum Forgotten {
     Nothing,
     Shift(ShiftId),

@@ -1,106 +1,34 @@
 //! Reads of a state beside its list of commands: each is answered at list time, and isn't counted.
-use arc_data::{
-    Command, CommandId, ControlId, List, MAX_MS, Op, PanelId, PracticeConfig, ResourceId, Status,
-    Text, Window, ZoneName, is_valid,
-};
+use arc_data::{Command, CommandId, MAX_MS, Op};
+use arc_json::{read_op, reply_text};
 use arc_state::{ReadOp, State};
 use std::alloc::Global;
 use std::process::Abort;
 use std::test::Fail;
 
-const RESOURCE: ResourceId = ResourceId(1);
-
-/// Monday 00:30, when the run of the test starts, and the moment at which it is over.
+/// Monday 00:30, when the run starts, and the moment at which it is over.
 const RUN_START: u64 = 347_400_000;
 
 const RUN_OVER: u64 = 349_200_000;
 
-/// What is asked of a state. Resources are named by their identifiers.
-#[derive(Clone, Copy)]
-enum Ask {
-    Shifts,
-    ShiftsOf(u64, Status),
-    Resource,
-    Resources,
-    Controls,
-    ControlState,
-    Rules,
-    /// No read.
-    EndAutoshift,
-}
-
-fn zone(name: &str) -> Result<ZoneName, Fail> {
-    Ok(ZoneName::of(name).ok_or("no zone")?)
-}
-
-fn op_of(ask: Ask) -> Result<Op, Fail> {
-    match ask {
-        Ask::Shifts => Ok(Op::ListZonalShifts {
-            resource: None,
-            status: None,
-        }),
-        Ask::ShiftsOf(resource, status) => Ok(Op::ListZonalShifts {
-            resource: Some(ResourceId(resource)),
-            status: Some(status),
-        }),
-        Ask::Resource => Ok(Op::GetManagedResource { resource: RESOURCE }),
-        Ask::Resources => Ok(Op::ListManagedResources),
-        Ask::Controls => Ok(Op::ListRoutingControls { panel: None }),
-        Ask::ControlState => Ok(Op::GetRoutingControlState {
-            control: ControlId(1),
-        }),
-        Ask::Rules => Ok(Op::ListSafetyRules { panel: PanelId(1) }),
-        Ask::EndAutoshift => Ok(Op::EndAutoshift {
-            away_from: zone("az1")?,
-        }),
+/// The operation that a name and a body ask for.
+fn op_of(alloc: Global, name: &str, body: &str) -> Result<Op, Fail> {
+    match read_op(alloc, name.as_bytes(), body.as_bytes()) {
+        Ok(op) => Ok(op),
+        Err(_) => Err(Fail::from("no operation")),
     }
 }
 
-fn register(alloc: Global) -> Result<Op, Fail> {
-    Ok(Op::RegisterManagedResource {
-        name: Text::of(alloc, "lb")?,
-        zones: List::of(vec![in alloc; zone("az1")?, zone("az2")?]?),
-    })
-}
-
-fn configure(alloc: Global) -> Result<Op, Fail> {
-    let dates: Vec<u32> = Vec::new(alloc);
-    let windows: Vec<Window> = Vec::new(alloc);
-    Ok(Op::CreatePracticeRunConfiguration {
-        resource: RESOURCE,
-        config: PracticeConfig {
-            blocked_dates: List::of(dates),
-            blocked_windows: List::of(windows),
-            blocking_alarms: List::of(Vec::new(alloc)),
-            outcome_alarms: List::of(vec![in alloc; Text::of(alloc, "errors")?]?),
-        },
-    })
-}
-
-fn start_run(alloc: Global) -> Result<Op, Fail> {
-    Ok(Op::StartPracticeRun {
-        resource: RESOURCE,
-        away_from: zone("az1")?,
-        comment: Text::of(alloc, "")?,
-    })
-}
-
-/// Gives a command to a state, whatever its reply. The command is lent, so that no exit of this function drops it.
-fn apply(alloc: Global, state: &mut State, command: &Command) -> Result<(), Fail> {
-    if !is_valid(&command.op) {
-        return Err(Fail::from("no operation"));
+/// Gives the state a command, whatever its reply.
+fn give(
+    alloc: Global,
+    state: &mut State,
+    at_ms: u64,
+    (name, body): (&str, &str),
+) -> Result<(), Fail> {
+    if at_ms > MAX_MS || state.count() > 1_000_000 {
+        return Err(Fail::from("too late or too many"));
     }
-    if command.at_ms > MAX_MS {
-        return Err(Fail::from("too late"));
-    }
-    if state.count() > 1_000_000 {
-        return Err(Fail::from("too many"));
-    }
-    state.apply(alloc, command)?;
-    Ok(())
-}
-
-fn give(alloc: Global, state: &mut State, at_ms: u64, op: Op) -> Result<(), Fail> {
     let command = Command {
         id: CommandId {
             node: 0,
@@ -109,74 +37,114 @@ fn give(alloc: Global, state: &mut State, at_ms: u64, op: Op) -> Result<(), Fail
         },
         at_ms,
         token: 0,
-        op,
+        op: op_of(alloc, name, body)?,
     };
-    apply(alloc, state, &command)
-}
-
-/// What a state answers to a read now, in words. The operation is lent, so that no exit of this function drops it.
-fn answer(alloc: Global, state: &State, op: &Op) -> Result<String, Fail> {
-    match ReadOp::of(op) {
-        Some(read) => {
-            let reply = state.answer_read(alloc, &read)?;
-            Ok(format!(in alloc; "{reply:?}")?)
-        }
-        None => Ok(String::from_str(alloc, "no read")?),
+    let applied = state.apply(alloc, &command).is_ok();
+    drop(command);
+    if applied {
+        Ok(())
+    } else {
+        Err(Fail::from("no memory"))
     }
 }
 
+/// The text that a state answers to a read now; none where the operation is no read.
+fn answer(alloc: Global, state: &State, name: &str, body: &str) -> Result<Vec<u8>, Fail> {
+    let op = op_of(alloc, name, body)?;
+    let read = ReadOp::of(&op);
+    drop(op);
+    match read {
+        Some(read) => {
+            let reply = state.answer_read(alloc, &read)?;
+            let text = reply_text(alloc, &reply)?.1;
+            drop(reply);
+            Ok(text)
+        }
+        None => Ok(Vec::new(alloc)),
+    }
+}
+
+/// Names and bodies of reads, and the texts of their answers.
+type Reads<'a> = &'a [(&'a str, &'a str, &'a str)];
+
 /// Asks a state for each, and compares what it answers.
-fn check_all(
-    rt: &(impl Abort + AllocGlobal),
-    state: &State,
-    rows: &[(Ask, &str)],
-) -> Result<(), Fail> {
-    for (ask, expected) in rows {
-        let op = op_of(*ask)?;
-        assert_eq!(rt; answer(rt.alloc(), state, &op)?.as_str(), *expected);
+fn check_all(rt: &(impl Abort + AllocGlobal), state: &State, rows: Reads<'_>) -> Result<(), Fail> {
+    for (name, body, expected) in rows {
+        let text = answer(rt.alloc(), state, name, body)?;
+        assert_eq!(rt; text.as_slice(), expected.as_bytes(), "{name} {body}");
     }
     Ok(())
 }
 
+const REGISTER: (&str, &str) = (
+    "RegisterManagedResource",
+    r#"{"name":"lb","availabilityZones":["az1","az2"]}"#,
+);
+
+const CONFIGURE: (&str, &str) = (
+    "CreatePracticeRunConfiguration",
+    r#"{"resourceIdentifier":"arn:arc:resource/0000000000000001","outcomeAlarms":[{"alarmIdentifier":"errors"}]}"#,
+);
+
+const START: (&str, &str) = (
+    "StartPracticeRun",
+    r#"{"resourceIdentifier":"arn:arc:resource/0000000000000001","awayFrom":"az1","comment":""}"#,
+);
+
+/// A zone that isn't in autoshift.
+const END_AUTOSHIFT: (&str, &str) = ("EndAutoshift", r#"{"awayFrom":"az1"}"#);
+
 const PENDING: &str =
-    "Done(Shifts { items: List { items: [ShiftItem { id: ShiftId(1), resource: ResourceId(1), \
-    away_from: \"az1\", comment: Text { text: \"\" }, start: 347400000, expiry: 349200000, status: Active, outcome: Some(Pending) }] } })";
+    r#"{"items":[{"awayFrom":"az1","comment":"","expiryTime":349200000,"practiceRunOutcome":"PENDING","resourceIdentifier":"arn:arc:resource/0000000000000001","startTime":347400000,"status":"ACTIVE","zonalShiftId":"00000000-0000-0000-0000-000000000001"}]}"#;
 
-const NO_SHIFT: &str = "Done(Shifts { items: List { items: [] } })";
+const ACTIVE: &str =
+    r#"{"resourceIdentifier":"arn:arc:resource/0000000000000001","status":"ACTIVE"}"#;
 
-const IN_A_RUN: [(Ask, &str); 10] = [
-    (Ask::Shifts, PENDING),
-    (Ask::ShiftsOf(1, Status::Active), PENDING),
-    (Ask::ShiftsOf(1, Status::Expired), NO_SHIFT),
+const RESOURCE: &str = r#"{"resourceIdentifier":"arn:arc:resource/0000000000000001"}"#;
+
+const IN_A_RUN: [(&str, &str, &str); 10] = [
+    ("ListZonalShifts", "{}", PENDING),
+    ("ListZonalShifts", ACTIVE, PENDING),
     (
-        Ask::ShiftsOf(2, Status::Active),
-        "Refused(NotFound { id: Resource(ResourceId(2)) })",
+        "ListZonalShifts",
+        r#"{"resourceIdentifier":"arn:arc:resource/0000000000000001","status":"EXPIRED"}"#,
+        r#"{"items":[]}"#,
     ),
     (
-        Ask::Resource,
-        "Done(ResourceDetail { applied: Some((PracticeRun, \"az1\")), zones: List { items: [\"az1\", \"az2\"] }, name: Text { text: \"lb\" }, resource: ResourceId(1), autoshift: false })",
+        "ListZonalShifts",
+        r#"{"resourceIdentifier":"arn:arc:resource/0000000000000002","status":"ACTIVE"}"#,
+        r#"{"Reason":"NotFound","Resource":"arn:arc:resource/0000000000000002","__type":"ResourceNotFoundException"}"#,
     ),
     (
-        Ask::Resources,
-        "Done(Resources { items: List { items: [ResourceItem { name: Text { text: \"lb\" }, resource: ResourceId(1) }] } })",
+        "GetManagedResource",
+        RESOURCE,
+        r#"{"appliedShift":{"awayFrom":"az1","kind":"PRACTICE_RUN"},"availabilityZones":["az1","az2"],"name":"lb","resourceIdentifier":"arn:arc:resource/0000000000000001","zonalAutoshiftStatus":"DISABLED"}"#,
     ),
     (
-        Ask::Controls,
-        "Done(Controls { items: List { items: [] } })",
+        "ListManagedResources",
+        "",
+        r#"{"items":[{"name":"lb","resourceIdentifier":"arn:arc:resource/0000000000000001"}]}"#,
+    ),
+    ("ListRoutingControls", "", r#"{"RoutingControls":[]}"#),
+    (
+        "GetRoutingControlState",
+        r#"{"RoutingControlArn":"arn:arc:control/0000000000000001"}"#,
+        r#"{"Reason":"NotFound","Resource":"arn:arc:control/0000000000000001","__type":"ResourceNotFoundException"}"#,
     ),
     (
-        Ask::ControlState,
-        "Refused(NotFound { id: Control(ControlId(1)) })",
+        "ListSafetyRules",
+        r#"{"ControlPanelArn":"arn:arc:panel/0000000000000001"}"#,
+        r#"{"SafetyRules":[]}"#,
     ),
-    (Ask::Rules, "Done(Rules { items: List { items: [] } })"),
-    (Ask::EndAutoshift, "no read"),
+    ("EndAutoshift", r#"{"awayFrom":"az1"}"#, ""),
 ];
 
-const AFTER_IT: [(Ask, &str); 2] = [
-    (Ask::ShiftsOf(1, Status::Active), NO_SHIFT),
+const AFTER_IT: [(&str, &str, &str); 2] = [
+    ("ListZonalShifts", ACTIVE, r#"{"items":[]}"#),
     (
-        Ask::Resource,
-        "Done(ResourceDetail { applied: None, zones: List { items: [\"az1\", \"az2\"] }, name: Text { text: \"lb\" }, resource: ResourceId(1), autoshift: false })",
+        "GetManagedResource",
+        RESOURCE,
+        r#"{"appliedShift":null,"availabilityZones":["az1","az2"],"name":"lb","resourceIdentifier":"arn:arc:resource/0000000000000001","zonalAutoshiftStatus":"DISABLED"}"#,
     ),
 ];
 
@@ -184,13 +152,13 @@ const AFTER_IT: [(Ask, &str); 2] = [
 fn a_read_is_answered_at_list_time(rt: HostRuntime) -> Result<(), Fail> {
     let alloc = rt.alloc();
     let mut state = State::fresh(alloc)?;
-    give(alloc, &mut state, 0, register(alloc)?)?;
-    give(alloc, &mut state, 0, configure(alloc)?)?;
-    give(alloc, &mut state, RUN_START, start_run(alloc)?)?;
+    give(alloc, &mut state, 0, REGISTER)?;
+    give(alloc, &mut state, 0, CONFIGURE)?;
+    give(alloc, &mut state, RUN_START, START)?;
     check_all(&rt, &state, &IN_A_RUN)?;
     assert_eq!(rt; state.count(), 3);
     // a command that is refused moves list time to the run's end
-    give(alloc, &mut state, RUN_OVER, op_of(Ask::EndAutoshift)?)?;
+    give(alloc, &mut state, RUN_OVER, END_AUTOSHIFT)?;
     check_all(&rt, &state, &AFTER_IT)?;
     assert_eq!(rt; state.count(), 4);
     Ok(())
