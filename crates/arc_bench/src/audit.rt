@@ -1,18 +1,18 @@
-//! The audit of five sound journals of 2,000 and of 8,000 entries each: at each slot a promise, a vote and its closing.
-ghost use Rattle.std.specs.Prelude.{◌≡◌, ◌≤◌, ◌+◌, ◌*◌, IfOk, vec_len};
+//! The audit of five sound journals: at each slot a promise, a vote and its closing.
+ghost use Rattle.std.specs.Prelude.{◌≡◌, ◌≤◌, ◌+◌, ◌*◌, vec_len};
 ghost use Rattle.arc_voting.specs.Journals.{journals_of};
 ghost use Rattle.arc_voting.specs.Walk.{HaveRoom};
 
-use arc_bytes::Five;
+use arc_bytes::{Five, Memory};
 use arc_data::{Command, CommandId, ControlId, Op, Record};
 use arc_voting::audit;
-use std::alloc::{AllocError, Global};
-use std::io;
-use std::rt::Clock;
-use std::time::Instant;
+use std::alloc::Global;
+
+/// How often the journals are audited.
+const ROUNDS: u32 = 16;
 
 /// The command of node 0 with this number.
-fn command(n: u32) -> Command {
+fn command_of(n: u32) -> Command {
     Command {
         id: CommandId { node: 0, inc: 1, n },
         at_ms: 0,
@@ -23,57 +23,80 @@ fn command(n: u32) -> Command {
     }
 }
 
-/// A journal that closed so many slots.
-fn journal_of(alloc: Global, slots: u32) -> Result<Vec<Record>, AllocError>
-    requires { slots ≤ 10000 }
-    ensures { IfOk result (λ v. vec_len v ≤ 3 * slots + 1) }
+/// Puts an entry behind the others, where there is memory.
+fn put(records: &mut Vec<Record>, record: Record) -> Result<(), Memory>
+    ensures { vec_len records.new ≤ vec_len records.old + 1 }
 {
-    let mut records = Vec::new(alloc);
-    records.push(Record::Opened { inc: 1 })?;
-    for slot in 0..slots {
-        let ballot = 5 * (slot as u64 + 1);
-        records.push(Record::Promised { from: slot, ballot })?;
-        records.push(Record::Voted {
+    records.push(record)?;
+    Ok(())
+}
+
+/// Puts the entries of a slot behind the others, where there is memory.
+fn put_slot(records: &mut Vec<Record>, slot: u32) -> Result<(), Memory>
+    ensures { vec_len records.new ≤ vec_len records.old + 3 }
+{
+    let ballot = 5 * (slot as u64 + 1);
+    put(records, Record::Promised { from: slot, ballot })?;
+    let command = command_of(slot);
+    put(
+        records,
+        Record::Voted {
             slot,
             ballot,
-            command: command(slot),
-        })?;
-        records.push(Record::Closed {
-            slot,
-            command: command(slot),
-        })?;
+            command,
+        },
+    )?;
+    let command = command_of(slot);
+    put(records, Record::Closed { slot, command })
+}
+
+/// A journal that closed so many slots, where there is memory.
+fn journal_of(alloc: Global, slots: u32) -> Vec<Record>
+    requires { slots ≤ 10000 }
+    ensures { vec_len result ≤ 3 * slots + 1 }
+{
+    let mut records = Vec::new(alloc);
+    let _ = put(&mut records, Record::Opened { inc: 1 });
+    for slot in 0..slots {
+        let _ = put_slot(&mut records, slot);
     }
-    Ok(records)
+    records
 }
 
-fn journals_of_all(alloc: Global, slots: u32) -> Result<Five<Vec<Record>>, AllocError>
+/// Five such journals.
+fn five_of(alloc: Global, slots: u32) -> Five<Vec<Record>>
     requires { slots ≤ 10000 }
-    ensures { IfOk result (λ js. HaveRoom (journals_of js)) }
+    ensures { HaveRoom (journals_of result) }
 {
-    let d0 = journal_of(alloc, slots)?;
-    let d1 = journal_of(alloc, slots)?;
-    let d2 = journal_of(alloc, slots)?;
-    let d3 = journal_of(alloc, slots)?;
-    let d4 = journal_of(alloc, slots)?;
-    Ok(Five { d0, d1, d2, d3, d4 })
+    Five {
+        d0: journal_of(alloc, slots),
+        d1: journal_of(alloc, slots),
+        d2: journal_of(alloc, slots),
+        d3: journal_of(alloc, slots),
+        d4: journal_of(alloc, slots),
+    }
 }
 
-/// Prints the nanoseconds that an audit takes.
-fn measure_one(rt: &(impl AllocGlobal + Clock + Print), slots: u32) -> io::Result<()>
+/// Audits journals again and again, and tells whether they are sound.
+fn are_sound(alloc: Global, js: &Five<Vec<Record>>) -> bool
+    requires { HaveRoom (journals_of js.now) }
+{
+    for _ in 0..ROUNDS {
+        if audit(alloc, js).is_err() {
+            return false;
+        }
+    }
+    true
+}
+
+/// Audits five such journals again and again, and counts the entries of one; 0 where they aren't sound.
+pub fn audits(alloc: Global, slots: u32) -> usize
     requires { slots ≤ 10000 }
 {
-    let Ok(js) = journals_of_all(rt.alloc(), slots) else {
-        return println!(rt; "no memory");
-    };
-    let records = js.d0.len();
-    let start = Instant::now(rt)?;
-    let is_sound = audit(rt.alloc(), &js).is_ok();
-    let nanos = start.elapsed(rt)?.as_nanos();
-    println!(rt; "records {records} nanoseconds {nanos} sound {is_sound}")
-}
-
-/// Prints the nanoseconds that audits of shorter and longer journals take.
-pub fn measure(rt: &(impl AllocGlobal + Clock + Print)) -> io::Result<()> {
-    measure_one(rt, 667)?;
-    measure_one(rt, 2667)
+    let js = five_of(alloc, slots);
+    if are_sound(alloc, &js) {
+        js.d0.len()
+    } else {
+        0
+    }
 }

@@ -1,10 +1,7 @@
 //! Requests of the worked session's size: `read_request` beside `httparse` alone on the same bytes.
 use arc_http::read_request;
 use httparse::{EMPTY_HEADER, Request, Status};
-use std::alloc::{AllocError, Global};
-use std::io;
-use std::rt::Clock;
-use std::time::Instant;
+use std::alloc::Global;
 
 /// One request of the worked session.
 const REQUEST: &[u8] =
@@ -13,18 +10,21 @@ const REQUEST: &[u8] =
 /// How long it is, in bytes.
 const SIZE: usize = 126;
 
-/// How many requests stand in the buffer, and how often it is read.
+/// How many requests stand in the buffer, back to back, and how often it is read.
 const REQUESTS: usize = 1_000;
 
 const ROUNDS: u32 = 100;
 
-/// The requests, back to back.
-fn requests(alloc: Global) -> Result<Vec<u8>, AllocError> {
-    let mut bytes = Vec::new(alloc);
-    for _ in 0..REQUESTS {
-        bytes.extend_from_slice(REQUEST)?;
+/// Reads 100,000 requests, and adds up their lengths.
+pub fn read(alloc: Global) -> usize {
+    let Ok(bytes) = REQUEST.repeat(alloc, REQUESTS) else {
+        return 0;
+    };
+    let mut total: usize = 0;
+    for _ in 0..ROUNDS {
+        total = total.wrapping_add(read_each(&bytes));
     }
-    Ok(bytes)
+    total
 }
 
 /// Reads each request, and adds up their lengths.
@@ -34,6 +34,18 @@ fn read_each(bytes: &[u8]) -> usize {
         if let Ok(Some((_, size))) = read_request(request) {
             total = total.wrapping_add(size);
         }
+    }
+    total
+}
+
+/// Parses 100,000 heads alone, and adds up their lengths.
+pub fn parse(alloc: Global) -> usize {
+    let Ok(bytes) = REQUEST.repeat(alloc, REQUESTS) else {
+        return 0;
+    };
+    let mut total: usize = 0;
+    for _ in 0..ROUNDS {
+        total = total.wrapping_add(parse_each(&bytes));
     }
     total
 }
@@ -49,22 +61,4 @@ fn parse_each(bytes: &[u8]) -> usize {
         }
     }
     total
-}
-
-/// Prints the nanoseconds that 100,000 requests take with either, and the bytes that were read.
-pub fn measure(rt: &(impl AllocGlobal + Clock + Print)) -> io::Result<()> {
-    let bytes = requests(rt.alloc())?;
-    let start = Instant::now(rt)?;
-    let mut read: usize = 0;
-    for _ in 0..ROUNDS {
-        read = read.wrapping_add(read_each(&bytes));
-    }
-    let ours = start.elapsed(rt)?.as_nanos();
-    let start = Instant::now(rt)?;
-    let mut parsed: usize = 0;
-    for _ in 0..ROUNDS {
-        parsed = parsed.wrapping_add(parse_each(&bytes));
-    }
-    let theirs = start.elapsed(rt)?.as_nanos();
-    println!(rt; "read_request {ours} httparse {theirs} bytes {read} {parsed}")
 }

@@ -1,17 +1,17 @@
-//! A journal of 10,000 entries of about 200 bytes: each closes a `set` with 16 overrides.
-ghost use Rattle.std.specs.Prelude.{◌≡◌, ◌≤◌, ◌<◌, true, IfOk, OnOk};
-ghost use Rattle.arc_data.specs.Valid.{IsValidRecord};
+//! A journal of 10,000 entries, which each close the same batch.
+ghost use Rattle.std.specs.Prelude.{◌≡◌, true};
+ghost use Rattle.arc_data.specs.Valid.{IsValid, IsValidRecord};
 ghost use Rattle.arc_journal.specs.Image.{is_below};
 ghost use Rattle.arc_journal.specs.Journal.{IsSettled, slots_of};
 
 use arc_bytes::Memory;
-use arc_data::{Batch, Command, CommandId, ControlId, Entry, List, Op, Record, RuleId};
+use arc_data::{Command, CommandId, Op, Record};
 use arc_disk::{Disk, MemoryDisk};
 use arc_journal::Journal;
+use arc_json::read_op;
 use std::alloc::Global;
-use std::rt::{Clock, Files};
-use std::time::Instant;
-use std::{fs, io};
+use std::fs;
+use std::rt::Files;
 
 /// How many entries are appended.
 const ENTRIES: u32 = 10_000;
@@ -19,84 +19,92 @@ const ENTRIES: u32 = 10_000;
 /// The greatest length of the list.
 const SLOTS: u32 = 16_384;
 
-/// The entry that closes this slot.
-fn entry_of(alloc: Global, slot: u32) -> Result<Record, Memory>
-    requires { slot < 10000 }
-    ensures valid { IfOk result IsValidRecord }
-    ensures below { IfOk result (λ r. is_below 16384 r ≡ true) }
+/// The entry that closes slot 0 with this operation.
+fn entry_of(op: Op) -> Record
+    requires { IsValid op }
+    ensures valid { IsValidRecord result }
+    ensures below { is_below 16384 result ≡ true }
 {
-    let entries = vec![in alloc;
-        Entry {
-            control: ControlId(1),
-            on: true
-        },
-    ]?;
-    let overrides = vec![in alloc; RuleId(7); 16]?;
-    let batch = Batch {
-        entries: List::of(entries),
-        overrides: List::of(overrides),
+    let id = CommandId {
+        node: 0,
+        inc: 1,
+        n: 0,
     };
     let command = Command {
-        id: CommandId {
-            node: 0,
-            inc: 1,
-            n: slot,
-        },
+        id,
         at_ms: 1000,
         token: 0,
-        op: Op::UpdateRoutingControlState { batch },
+        op,
     };
-    Ok(Record::Closed { slot, command })
+    Record::Closed { slot: 0, command }
 }
 
-/// Appends all of the entries.
-fn append_all<D: Disk>(alloc: Global, journal: &mut Journal<D>) -> Result<(), Memory>
+/// Appends the entry again and again, and tells whether that went well.
+fn append_all<D: Disk>(journal: &mut Journal<D>, entry: &Record) -> bool
     requires settled { IsSettled D.tells D.content D.may_leave journal.old }
     requires slots { slots_of journal.old ≡ 16384 }
+    requires valid { IsValidRecord entry.now }
+    requires below { is_below 16384 entry.now ≡ true }
 {
-    for slot in 0..ENTRIES {
-        let entry = entry_of(alloc, slot)?;
-        match journal.append(&entry) {
+    for _ in 0..ENTRIES {
+        match journal.append(entry) {
             Ok(()) => {}
-            Err(_) => return Err(Memory),
+            Err(_) => return false,
         }
     }
-    Ok(())
+    true
 }
 
-/// A journal of node 0 with all of the entries, on a disk in memory.
-fn filled(alloc: Global) -> Result<MemoryDisk, Memory> {
+/// A journal of node 0 with so many entries, on a disk in memory.
+fn filled(alloc: Global, entry: &Record) -> Option<MemoryDisk>
+    requires valid { IsValidRecord entry.now }
+    requires below { is_below 16384 entry.now ≡ true }
+{
     let disk = MemoryDisk::new(alloc, Vec::new(alloc));
     let Ok(mut journal) = Journal::create(alloc, disk, 0, SLOTS) else {
-        return Err(Memory);
+        return None;
     };
-    append_all(alloc, &mut journal)?;
-    Ok(journal.give_back())
+    if append_all(&mut journal, entry) {
+        Some(journal.give_back())
+    } else {
+        None
+    }
 }
 
-/// How many records a journal of node 0 on this disk has; 0 where it is refused.
-fn found(alloc: Global, disk: MemoryDisk) -> usize {
+/// The same, where the entry closes a batch with this body.
+fn filled_by(alloc: Global, body: &[u8]) -> Option<MemoryDisk> {
+    match read_op(alloc, b"UpdateRoutingControlStates", body) {
+        Ok(op) => filled(alloc, &entry_of(op)),
+        Err(_) => None,
+    }
+}
+
+/// Appends all of the entries, writes the journal's bytes to the file with this name, where there is one, and counts them.
+pub fn append(rt: &(impl AllocGlobal + Files), body: &[u8], path: Option<&String>) -> usize {
+    let Some(disk) = filled_by(rt.alloc(), body) else {
+        return 0;
+    };
+    if let Some(path) = path
+        && fs::write(rt, path.as_str(), disk.bytes()).is_err()
+    {
+        return 0;
+    }
+    disk.bytes().len()
+}
+
+/// A disk in memory with these bytes.
+fn disk_of(alloc: Global, bytes: &[u8]) -> Result<MemoryDisk, Memory> {
+    let bytes = Vec::from_slice(alloc, bytes)?;
+    MemoryDisk::from_bytes(alloc, bytes, Vec::new(alloc))
+}
+
+/// Adopts a journal of node 0 with these bytes, and counts its entries; 0 where it is refused.
+pub fn adopt(alloc: Global, bytes: &[u8]) -> usize {
+    let Ok(disk) = disk_of(alloc, bytes) else {
+        return 0;
+    };
     match Journal::adopt(alloc, disk, 0) {
         Ok((_, records)) => records.len(),
         Err(_) => 0,
     }
-}
-
-/// Prints the nanoseconds that appending and adopting take, and writes the journal's bytes to the file with this name.
-pub fn measure(
-    rt: &(impl AllocGlobal + Clock + Files + Print),
-    path: Option<String>,
-) -> io::Result<()> {
-    let start = Instant::now(rt)?;
-    let Ok(disk) = filled(rt.alloc()) else {
-        return println!(rt; "no memory");
-    };
-    let appending = start.elapsed(rt)?.as_nanos();
-    if let Some(path) = path {
-        fs::write(rt, path.as_str(), disk.bytes())?;
-    }
-    let start = Instant::now(rt)?;
-    let records = found(rt.alloc(), disk);
-    let adopting = start.elapsed(rt)?.as_nanos();
-    println!(rt; "append {appending} adopt {adopting} records {records}")
 }

@@ -1,24 +1,25 @@
-//! Measures parts of the program beside what they stand on. The first word names the measurement, and the scripts of
-//! `bench/` run it and print ratios. No promise rests on it.
+//! Does parts of the program, and what they stand on, often enough to be timed. The first word names what is done, and the
+//! second a file that it is done with; the scripts of `bench/` run it and print ratios. No promise rests on it.
 #![tactic(auto)]
 
 mod audit;
 mod http;
 mod journal;
 mod json;
+mod measured;
 mod turn;
 
+use crate::measured::measured;
+use std::time::Instant;
 use std::{env, io};
 
+/// Prints the nanoseconds that it took, and how much was done; without a word what there is.
 fn main(rt: HostRuntime) -> io::Result<()> {
-    let mut words = env::args(&rt)?;
-    let word = words.nth(1);
-    match word.as_ref().map(|word| word.as_str()) {
-        Some("audit") => audit::measure(&rt),
-        Some("http") => http::measure(&rt),
-        Some("journal") => journal::measure(&rt, words.next()),
-        Some("json") => json::measure(&rt),
-        Some("turn") => turn::measure(&rt, rt.alloc()),
-        _ => println!(rt; "measurements: audit, http, journal, json, turn"),
-    }
+    let start = Instant::now(&rt)?;
+    let words = env::args(&rt)?;
+    let Some(count) = measured(&rt, words) else {
+        return println!(rt; "measurements: audit, http, journal, json, turn");
+    };
+    let nanos = start.elapsed(&rt)?.as_nanos();
+    println!(rt; "nanoseconds {nanos} count {count}")
 }

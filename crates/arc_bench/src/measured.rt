@@ -1,0 +1,57 @@
+//! What the words name.
+use crate::{audit, http, journal, json, turn};
+use std::env::Args;
+use std::fs;
+use std::rt::Files;
+use std::sync::Wait;
+use std::thread::Threads;
+
+/// Does what the first word names with the bytes of the file that the second names, and counts what was done; none where
+/// there is no word.
+pub fn measured<R: AllocGlobal + Files + Threads + Wait + Sync>(
+    rt: &R,
+    words: Args,
+) -> Option<usize> {
+    let mut words = words.skip(1);
+    let name = words.next()?;
+    let bytes = bytes_of(rt, words.next());
+    let path = words.next();
+    Some(count_of(rt, name.as_str(), &bytes, path.as_ref()))
+}
+
+/// The bytes of the file at a path; none where there is no such file.
+fn bytes_of(rt: &(impl AllocGlobal + Files), path: Option<String>) -> Vec<u8> {
+    match path {
+        Some(path) => match fs::read(rt, path.as_str()) {
+            Ok(bytes) => bytes,
+            Err(_) => Vec::new(rt.alloc()),
+        },
+        None => Vec::new(rt.alloc()),
+    }
+}
+
+/// How much was done.
+fn count_of<R: AllocGlobal + Files + Threads + Wait + Sync>(
+    rt: &R,
+    name: &str,
+    bytes: &[u8],
+    path: Option<&String>,
+) -> usize {
+    let alloc = rt.alloc();
+    match name {
+        "audit-shorter" => audit::audits(alloc, 667),
+        "audit-longer" => audit::audits(alloc, 2667),
+        "http" => http::read(alloc),
+        "httparse" => http::parse(alloc),
+        "append" => journal::append(rt, bytes, path),
+        "adopt" => journal::adopt(alloc, bytes),
+        "batch" => json::read(alloc, "UpdateRoutingControlStates", bytes),
+        "rule" => json::read(alloc, "CreateSafetyRule", bytes),
+        "json" => json::parse(alloc, bytes),
+        "turn" => turn::turns(rt, alloc, 1),
+        "turns" => turn::turns(rt, alloc, 4),
+        "lock" => turn::locks(rt, alloc, 1),
+        "locks" => turn::locks(rt, alloc, 4),
+        _ => 0,
+    }
+}
