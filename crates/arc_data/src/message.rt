@@ -114,10 +114,7 @@ impl Answer {
                 ballot,
                 known,
             } => {
-                let known = match known {
-                    None => None,
-                    Some(command) => Some(command.copy(alloc)?),
-                };
+                let known = copy_known(alloc, known)?;
                 Ok(Answer::At {
                     length: *length,
                     ballot: *ballot,
@@ -134,10 +131,7 @@ impl Answer {
             Answer::Behind { length } => Ok(Answer::Behind { length: *length }),
             Answer::Refused { ballot } => Ok(Answer::Refused { ballot: *ballot }),
             Answer::Promise { slot, ballot, vote } => {
-                let vote = match vote {
-                    None => None,
-                    Some((ballot, command)) => Some((*ballot, command.copy(alloc)?)),
-                };
+                let vote = copy_vote(alloc, vote)?;
                 Ok(Answer::Promise {
                     slot: *slot,
                     ballot: *ballot,
@@ -150,5 +144,25 @@ impl Answer {
             }),
             Answer::Learned { length } => Ok(Answer::Learned { length: *length }),
         }
+    }
+}
+
+/// The same command again, where one is known.
+fn copy_known(alloc: Global, known: &Option<Command>) -> Result<Option<Command>, Memory>
+    ensures { IfOk result (λ copy. copy ≡ known.now) }
+{
+    match known {
+        Some(command) => Ok(Some(command.copy(alloc)?)),
+        None => Ok(None),
+    }
+}
+
+/// The same vote again, where one is told.
+fn copy_vote(alloc: Global, vote: &Option<(u64, Command)>) -> Result<Option<(u64, Command)>, Memory>
+    ensures { IfOk result (λ copy. copy ≡ vote.now) }
+{
+    match vote {
+        Some((ballot, command)) => Ok(Some((*ballot, command.copy(alloc)?))),
+        None => Ok(None),
     }
 }
