@@ -25,7 +25,7 @@ pub(crate) enum Appended {
 }
 
 /// How an up node kept an entry.
-#[derive(Clone, Copy, Debug, PartialEq, Eq)]
+#[derive(Clone, Copy)]
 pub(crate) enum Kept {
     /// The entry is on the disk, and in the list.
     Done,
@@ -44,13 +44,6 @@ fn push_within(list: &mut Vec<Record>, entry: Record)
         Ok(()) => {}
         Err(_) => unreachable!(),
     }
-}
-
-/// How an append ended that left nothing of the entry.
-fn without(_entry: Record, end: Appended) -> Appended
-    ensures { result ≡ end }
-{
-    end
 }
 
 /// Appends an entry to a journal, and then to the list of its entries. The list has room for it before the journal has
@@ -73,13 +66,22 @@ pub(crate) fn append_entry<D: Disk>(
 {
     match list.reserve(1) {
         Ok(()) => {}
-        Err(_) => return without(entry, Appended::Memory),
+        Err(_) => {
+            drop(entry);
+            return Appended::Memory;
+        }
     }
     match journal.append(&entry) {
         Ok(()) => {}
         Err(AppendEnd::Disk) => return Appended::Doubtful(entry),
-        Err(AppendEnd::Full { count }) => return without(entry, Appended::Full { count }),
-        Err(AppendEnd::Memory) => return without(entry, Appended::Memory),
+        Err(AppendEnd::Full { count }) => {
+            drop(entry);
+            return Appended::Full { count };
+        }
+        Err(AppendEnd::Memory) => {
+            drop(entry);
+            return Appended::Memory;
+        }
     }
     push_within(list, entry);
     Appended::Done

@@ -28,7 +28,7 @@ pub(crate) struct Entries {
 }
 
 /// What a list of entries comes to.
-#[derive(Clone, Copy, Debug, PartialEq, Eq)]
+#[derive(Clone, Copy)]
 pub(crate) struct Totals {
     /// The closed length and the promise.
     pub progress: Progress,

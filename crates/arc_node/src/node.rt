@@ -26,7 +26,7 @@ use crate::starts::opened_count;
 use crate::{HandleEnd, Restart};
 use arc_acceptor::{Turned, answer_at};
 use arc_bytes::Memory;
-use arc_data::{Answer, Command, CommandId, Message, Record};
+use arc_data::{Command, CommandId, Message, Record};
 use arc_disk::{Disk, Rig};
 use arc_journal::{Journal, JournalEnd};
 use arc_voting::applied_at;
@@ -188,8 +188,14 @@ impl<D: Disk> Node<D> {
         };
         match self.keep_entry(entry) {
             Kept::Done => HandleEnd::Answered(reply),
-            Kept::Fallen => unsaid(reply, HandleEnd::Down),
-            Kept::Memory => unsaid(reply, HandleEnd::Memory),
+            Kept::Fallen => {
+                drop(reply);
+                HandleEnd::Down
+            }
+            Kept::Memory => {
+                drop(reply);
+                HandleEnd::Memory
+            }
         }
     }
 
@@ -267,7 +273,7 @@ impl<D: Disk> Node<D> {
         match list.append(&mut self.journal, Record::Opened { inc }) {
             Appended::Done => {
                 self.entries = list;
-                self.doubt = None;
+                drop(self.doubt.take());
                 self.standing = Standing::Up;
                 Restart::Up { inc }
             }
@@ -278,7 +284,7 @@ impl<D: Disk> Node<D> {
             }
             Appended::Full { count } => {
                 self.entries = list;
-                self.doubt = None;
+                drop(self.doubt.take());
                 self.standing = Standing::Retired;
                 Restart::Full { count }
             }
@@ -395,7 +401,15 @@ impl<D: Disk> Node<D> {
     pub fn give_back(self) -> D
         ensures { result ≡ disk_in self }
     {
-        self.journal.give_back()
+        let Node {
+            journal,
+            entries,
+            doubt,
+            ..
+        } = self;
+        drop(entries);
+        drop(doubt);
+        journal.give_back()
     }
 }
 
@@ -426,14 +440,7 @@ fn first_start<D: Disk>(node: Node<D>) -> Result<Node<D>, (D, JournalEnd)>
 fn put(doubt: &mut Option<Record>, entry: Record)
     ensures { doubt.new ≡ Some entry }
 {
-    *doubt = Some(entry);
-}
-
-/// An end without the answer that was made.
-fn unsaid(_reply: Answer, end: HandleEnd) -> HandleEnd
-    ensures { result ≡ end }
-{
-    end
+    drop(doubt.replace(entry));
 }
 
 /// How a restart ends whose journal was refused, or not read.
@@ -467,6 +474,7 @@ fn damaged(alloc: Global, kept: &[Record], found: &[Record]) -> Restart
         return Restart::Memory;
     };
     let Ok(other) = copy_at(alloc, found, place) else {
+        drop(its);
         return Restart::Memory;
     };
     Restart::Damaged {

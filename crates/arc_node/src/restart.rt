@@ -3,7 +3,7 @@
 use arc_data::Record;
 
 /// How a start of a node ends.
-#[derive(Debug, Drop)]
+#[derive(Drop)]
 pub enum Restart {
     /// The node is up, started for the time with this number.
     Up {

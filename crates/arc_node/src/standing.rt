@@ -1,7 +1,7 @@
 //! Whether a node is up, and why it isn't.
 
 /// Whether a node is up, and why it isn't.
-#[derive(Clone, Copy, Debug, PartialEq, Eq)]
+#[derive(Clone, Copy)]
 pub(crate) enum Standing {
     /// It was loaded, and not woken yet.
     Asleep,

@@ -4,7 +4,7 @@ use Rattle.arc_acceptor.specs.Answering.{turn_in}
 use Rattle.arc_journal.specs.Journal.{IsBeforeOrWith}
 use Rattle.arc_journal.proofs.Moments.{widened}
 use Rattle.arc_voting.specs.Turn.{IsTurn}
-use Rattle.arc_node.specs.Handling.{Handles, HasTurn, with_appended}
+use Rattle.arc_node.specs.Handling.{HasTurn, with_appended}
 use Rattle.arc_node.specs.Node.{disk_in, kept, number_of, slots_in, IsKnown, MayRead}
 use Rattle.arc_node.proofs.Orders.{of_up, with_turn}
 use Rattle.arc_node.proofs.Turning.{turn_fits}
@@ -59,8 +59,7 @@ returns-in-Done-clause-any_moment g c = λ told.
 pub returns-in-Fallen-clause-handles : goal.returns-in-Fallen-clause-handles
 returns-in-Fallen-clause-handles g c =
     let old = c.args.self.now in
-    let keeps = c.in-Fallen.ensures.keeps in
-    subst (Handles g.D.Disk.faults old c.keep_entry.new.self c.args.message.now) (sym c.unsaid.ensures) (
+    let keeps = c.in-Fallen.ensures.keeps in (
       keeps.0,
       inr (
         c.requires.up,
