@@ -12,7 +12,7 @@ use arc_bytes::Five;
 use arc_data::{Command, Record};
 
 /// What the entries of a journal so far say of the next one.
-#[derive(Clone, Copy, Debug, Drop)]
+#[derive(Clone, Copy, Drop)]
 pub struct Seen {
     /// How often the node was started.
     pub opened: usize,

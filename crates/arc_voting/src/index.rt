@@ -16,7 +16,7 @@ use std::alloc::{AllocError, Global};
 use std::collections::BTreeMap;
 
 /// Where a command begins, and which slot it closes.
-#[derive(Clone, Copy, Debug, Drop)]
+#[derive(Clone, Copy, Drop)]
 pub struct Begun {
     /// The place of its node's start, in the journal of that node.
     pub start: usize,

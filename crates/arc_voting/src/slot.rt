@@ -11,7 +11,7 @@ use arc_bytes::Five;
 use arc_data::{Command, Record};
 
 /// What a journal says of one slot.
-#[derive(Clone, Copy, Debug, Drop)]
+#[derive(Clone, Copy, Drop)]
 pub struct Part {
     /// Its votes at the slot stand from this place on ..
     pub start: usize,
@@ -22,7 +22,7 @@ pub struct Part {
 }
 
 /// What five journals say of one slot.
-#[derive(Debug, Drop)]
+#[derive(Drop)]
 pub struct Slot {
     pub number: u32,
     pub parts: Five<Part>,

@@ -12,7 +12,7 @@ use arc_data::Record;
 use std::alloc::{AllocError, Global};
 
 /// Where the votes of each slot stand in a journal.
-#[derive(Debug, Drop)]
+#[derive(Drop)]
 pub struct Track {
     /// The part of each slot that the journal closed, and of the first open one.
     parts: Vec<Part>,
