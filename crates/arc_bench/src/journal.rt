@@ -81,16 +81,16 @@ fn entry_by(alloc: Global, body: &[u8]) -> Result<Record, RequestEnd>
 }
 
 /// The same, where the entry closes a batch with this body.
-fn filled_by(alloc: Global, body: &[u8]) -> Option<MemoryDisk> {
-    match entry_by(alloc, body) {
-        Ok(entry) => filled(alloc, &entry),
-        Err(_) => None,
-    }
+fn filled_by(alloc: Global, body: &[u8]) -> Result<Option<MemoryDisk>, RequestEnd> {
+    let entry = entry_by(alloc, body)?;
+    let disk = filled(alloc, &entry);
+    drop(entry);
+    Ok(disk)
 }
 
 /// Appends all of the entries, writes the journal's bytes to the file with this name, where there is one, and counts them.
 pub fn append(rt: &(impl AllocGlobal + Files), body: &[u8], path: Option<&String>) -> usize {
-    let Some(disk) = filled_by(rt.alloc(), body) else {
+    let Ok(Some(disk)) = filled_by(rt.alloc(), body) else {
         return 0;
     };
     if let Some(path) = path

@@ -8,7 +8,8 @@ const ROUNDS: usize = 10_000;
 
 /// Reads a body as this operation, which is gone then.
 fn read_once(alloc: Global, name: &str, body: &[u8]) -> Result<(), RequestEnd> {
-    let _op = read_op(alloc, name.as_bytes(), body)?;
+    let op = read_op(alloc, name.as_bytes(), body)?;
+    drop(op);
     Ok(())
 }
 
