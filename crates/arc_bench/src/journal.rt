@@ -1,5 +1,5 @@
 //! A journal of 10,000 entries, which each close the same batch.
-ghost use Rattle.std.specs.Prelude.{◌≡◌, true};
+ghost use Rattle.std.specs.Prelude.{◌≡◌, true, IfOk};
 ghost use Rattle.arc_data.specs.Valid.{IsValid, IsValidRecord};
 ghost use Rattle.arc_journal.specs.Image.{is_below};
 ghost use Rattle.arc_journal.specs.Journal.{IsSettled, slots_of};
@@ -8,7 +8,7 @@ use arc_bytes::Memory;
 use arc_data::{Command, CommandId, Op, Record};
 use arc_disk::{Disk, MemoryDisk};
 use arc_journal::Journal;
-use arc_json::read_op;
+use arc_json::{RequestEnd, read_op};
 use std::alloc::Global;
 use std::fs;
 use std::rt::Files;
@@ -71,17 +71,26 @@ fn filled(alloc: Global, entry: &Record) -> Option<MemoryDisk>
     }
 }
 
+/// The entry that closes slot 0 with a batch, which has this body.
+fn entry_by(alloc: Global, body: &[u8]) -> Result<Record, RequestEnd>
+    ensures valid { IfOk result IsValidRecord }
+    ensures below { IfOk result (λ r. is_below 16384 r ≡ true) }
+{
+    let op = read_op(alloc, b"UpdateRoutingControlStates", body)?;
+    Ok(entry_of(op))
+}
+
 /// The same, where the entry closes a batch with this body.
-fn filled_by(alloc: Global, body: &[u8]) -> Option<MemoryDisk> {
-    match read_op(alloc, b"UpdateRoutingControlStates", body) {
-        Ok(op) => filled(alloc, &entry_of(op)),
-        Err(_) => None,
-    }
+fn filled_by(alloc: Global, body: &[u8]) -> Result<Option<MemoryDisk>, RequestEnd> {
+    let entry = entry_by(alloc, body)?;
+    let disk = filled(alloc, &entry);
+    drop(entry);
+    Ok(disk)
 }
 
 /// Appends all of the entries, writes the journal's bytes to the file with this name, where there is one, and counts them.
 pub fn append(rt: &(impl AllocGlobal + Files), body: &[u8], path: Option<&String>) -> usize {
-    let Some(disk) = filled_by(rt.alloc(), body) else {
+    let Ok(Some(disk)) = filled_by(rt.alloc(), body) else {
         return 0;
     };
     if let Some(path) = path
