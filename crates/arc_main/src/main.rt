@@ -10,7 +10,6 @@ ghost use Rattle.arc_disk.specs.MemoryDisk.{NoneFails, content_of, disk_stops_in
 ghost use Rattle.arc_drill.specs.Drilled.{AreEmpty};
 ghost use Rattle.arc_drill.specs.Since.{IsQuiet};
 
-#[cfg(test)]
 mod memory_outside;
 mod outside;
 mod run;
