@@ -29,5 +29,5 @@ if is_built arc_main; then
 fi
 
 echo "arc: this run isn't the proved program: it compiles the same sources without a proof, in about a minute and a half" >&2
-echo "arc: ./arc build proves and builds the program, from 20 minutes on four processors to an hour on one; after that it runs at once" >&2
+echo "arc: ./arc build proves and builds the program, from nothing in about half an hour on four processors; after that it runs at once" >&2
 try_unproved arc_main -- "$@"

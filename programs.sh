@@ -24,7 +24,7 @@ is_older() {
 # The libraries of this repository that a crate stands on, each behind those that it stands on itself.
 libraries_below() {
   awk -v top="$1" '
-    /^[a-z0-9_]+:/ { name = $1; sub(/:.*/, "", name); sub(/^[^:]*:/, ""); uses[name] = $0; order[++count] = name }
+    /^[a-z0-9_]+:/ { name = $1; sub(/:.*/, "", name); sub(/^[^:]*:/, ""); uses[name] = $0 }
     function mark(name,    parts, n, i) {
       if (!(name in uses) || name in wanted) return
       wanted[name] = 1
@@ -35,76 +35,41 @@ libraries_below() {
     END { mark(top) }' "$here/crates.txt"
 }
 
-# Whether each of the first crate's libraries of this repository is among the other words.
-stands_on() {
-  local crate=$1 library
-  shift
-  for library in $(libraries_below "$crate"); do
-    case " $* " in *" $library "*) ;; *) return 1 ;; esac
-  done
-}
-
-# How many crates are proved side by side: one a processor, and one for each four gigabytes of memory that are free.
-lanes() {
-  local processors memory
-  processors=$(nproc)
-  memory=$(awk '/^MemAvailable:/ { print int($2 / 4000000) }' /proc/meminfo)
-  [ "$memory" -lt "$processors" ] && processors=$memory
-  [ "$processors" -ge 1 ] || processors=1
-  echo "$processors"
-}
-
 minutes_since() {
   echo "$(((SECONDS - $1) / 60)) minutes so far"
 }
 
-# Proves the libraries below a program side by side, with a line for each that begins, and then proves and builds the program.
+# Proves all crates, as many side by side as the toolchain finds room for, with a line for each that is proved, and then builds
+# the program.
 build() {
-  local crate=$1 start=$SECONDS lanes pid status number=0 library log
-  local -a left done_ones=()
-  local -A running=()
-  lanes=$(lanes)
-  log=$(mktemp -d) || return 1
-  mapfile -t left < <(libraries_below "$crate")
-  local count=$((${#left[@]} + 1))
-  echo "arc: proving $count crates and building $crate; from nothing this takes from 20 minutes on four processors to an hour on one" >&2
-  while [ ${#left[@]} -gt 0 ] || [ ${#running[@]} -gt 0 ]; do
-    local -a waiting=()
-    for library in "${left[@]}"; do
-      if [ ${#running[@]} -lt "$lanes" ] && stands_on "$library" "${done_ones[@]}"; then
-        number=$((number + 1))
-        echo "arc: $number of $count, $library, $(minutes_since "$start")" >&2
-        (cd "$here/crates/$library" && exec rt lib >"$log/$library" 2>&1 </dev/null) &
-        running[$!]=$library
-      else
-        waiting+=("$library")
-      fi
-    done
-    left=("${waiting[@]}")
-    wait -n -p pid "${!running[@]}"
-    status=$?
-    if [ "$status" -ne 0 ]; then
-      cat "$log/${running[$pid]}" >&2
-      echo "arc: ${running[$pid]} wasn't proved, $(minutes_since "$start")" >&2
-      kill "${!running[@]}" 2>/dev/null
-      wait
-      rm -rf "$log"
-      return 1
+  local crate=$1 start=$SECONDS number=0 count log line name
+  count=$(grep -c '^[a-z0-9_]*:' "$here/crates.txt")
+  log=$(mktemp) || return 1
+  echo "arc: proving $count crates and building $crate; from nothing this takes about half an hour on four processors" >&2
+  while IFS= read -r line; do
+    echo "$line" >>"$log"
+    name=${line#== }
+    if [ "$name" != "$line" ] && [ "$name" != summary ]; then
+      number=$((number + 1))
+      echo "arc: $number of $count crates, $name, $(minutes_since "$start")" >&2
     fi
-    done_ones+=("${running[$pid]}")
-    unset "running[$pid]"
-  done
-  echo "arc: $count of $count, $crate, $(minutes_since "$start")" >&2
-  (cd "$here/crates/$crate" && rt run </dev/null >"$log/$crate" 2>&1)
-  # The status is that of the program, which has no words here; this line says that it was built.
-  if ! grep -q '^rt: running ' "$log/$crate"; then
-    cat "$log/$crate" >&2
-    echo "arc: $crate wasn't built, $(minutes_since "$start")" >&2
-    rm -rf "$log"
+  done < <(cd "$here" && rt all check 2>&1 </dev/null)
+  if ! grep -q "^$count of $count crates ok" "$log"; then
+    cat "$log" >&2
+    echo "arc: not every crate was proved, $(minutes_since "$start")" >&2
+    rm -f "$log"
     return 1
   fi
+  (cd "$here/crates/$crate" && rt run </dev/null >"$log" 2>&1)
+  # The status is that of the program, which has no words here; this line says that it was built.
+  if ! grep -q '^rt: running ' "$log"; then
+    cat "$log" >&2
+    echo "arc: $crate wasn't built, $(minutes_since "$start")" >&2
+    rm -f "$log"
+    return 1
+  fi
+  rm -f "$log"
   touch "$(program_of "$crate")"
-  rm -rf "$log"
   echo "arc: built in $((SECONDS - start)) seconds" >&2
 }
 
