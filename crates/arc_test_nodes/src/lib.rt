@@ -1,20 +1,14 @@
-//! Tests of one node: what the votes of five journals choose, what a node appends and answers, what an endpoint proposes,
-//! and what a crash leaves of a journal and of a node.
+//! Tests of one node and its journal: the bytes of a new node, what is found in damaged bytes, what a crash leaves of an
+//! append, and a node that is loaded.
 //!
-//! They stand apart from the crates that they test, so that those are proved once, and not once more with their tests.
-//! Each module tests one crate, and uses of it what any caller can.
+//! They stand apart from the crates that they test, so that those are proved once, and not once more with their tests. What a
+//! drill shows of nodes, and of disks that stop in one, is told by the stories and by `arc_test_drill`.
 //!
-//! It stands on `arc_voting`, `arc_acceptor`, `arc_proposer`, `arc_journal` and `arc_node`, which it tests, and on what
-//! these stand on. It exports nothing, and no promise rests on it.
+//! It stands on `arc_journal` and `arc_node`, which it tests, on `arc_command` for entries and on `arc_bytes` and `arc_disk` for
+//! what is handed to them. It exports nothing, and no promise rests on it.
 #![tactic(auto)]
 
-#[cfg(test)]
-mod acceptor;
 #[cfg(test)]
 mod journal;
 #[cfg(test)]
 mod node;
-#[cfg(test)]
-mod proposer;
-#[cfg(test)]
-mod voting;

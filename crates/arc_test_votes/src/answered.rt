@@ -2,10 +2,12 @@
 ghost use Rattle.std.specs.Prelude.{◌<◌, ◌^◌, length};
 ghost use Rattle.arc_acceptor.specs.Answering.{IsLearnable};
 
+use crate::named::{Name, command};
 use arc_acceptor::{Turned, answer};
 use arc_bytes::Memory;
-use arc_data::{Answer, Command, CommandId, ControlId, Message, Op, Record};
+use arc_data::{Answer, Command, Message, Record};
 use std::alloc::Global;
+use std::process::Abort;
 use std::test::Fail;
 
 /// A message, an entry or an answer by numbers alone. A command is told by its token, and no command is 0.
@@ -33,19 +35,9 @@ use Word::{
     Refused, Status, Vote,
 };
 
-fn command(token: u64) -> Command {
-    Command {
-        id: CommandId {
-            node: 0,
-            inc: 1,
-            n: 0,
-        },
-        at_ms: 0,
-        token,
-        op: Op::GetRoutingControlState {
-            control: ControlId(1),
-        },
-    }
+/// The command with this token.
+fn tokened(token: u64) -> Command {
+    command(Name(0, 1, 0, token))
 }
 
 fn message(word: Word) -> Message
@@ -56,11 +48,11 @@ fn message(word: Word) -> Message
         Accept(slot, ballot, token) => Message::Accept {
             slot,
             ballot,
-            command: command(token),
+            command: tokened(token),
         },
         Learn(slot, token) if slot < 9 => Message::Learn {
             slot,
-            command: command(token),
+            command: tokened(token),
         },
         Status(slot) => Message::Status { slot },
         _ => Message::Status { slot: 0 },
@@ -73,11 +65,11 @@ fn entry(word: Word) -> Record {
         Vote(slot, ballot, token) => Record::Voted {
             slot,
             ballot,
-            command: command(token),
+            command: tokened(token),
         },
         Close(slot, token) => Record::Closed {
             slot,
-            command: command(token),
+            command: tokened(token),
         },
         Open(inc) => Record::Opened { inc },
         _ => Record::Opened { inc: 0 },
@@ -160,9 +152,12 @@ fn turn(alloc: Global, journal: &[Word], word: Word) -> Result<(Option<Word>, Wo
     asked(alloc, &entries, word)
 }
 
+/// A journal, what is asked, what is appended and what is answered.
+type Row = (&'static [Word], Word, Option<Word>, Word);
+
 /// One slot is closed with the command 1, and ballot 10 is promised. At slot 1 there are two votes in it, as no sound
 /// journal has, and one in a lower ballot.
-const JOURNAL: [Word; 8] = [
+const JOURNAL: &[Word] = &[
     Open(1),
     Promise(0, 5),
     Vote(0, 5, 1),
@@ -173,33 +168,8 @@ const JOURNAL: [Word; 8] = [
     Vote(1, 10, 3),
 ];
 
-#[test]
-fn each_row_of_the_table(rt: HostRuntime) -> Result<(), Fail> {
-    let alloc = rt.alloc();
-    for (asked, appended, answered) in [
-        (Status(0), None, At(1, 10, 1)),
-        (Status(1), None, At(1, 10, 0)),
-        (Prepare(0, 99), None, Known(0, 1)),
-        (Accept(0, 99, 4), None, Known(0, 1)),
-        (Prepare(2, 99), None, Behind(1)),
-        (Accept(2, 99, 4), None, Behind(1)),
-        (Learn(2, 4), None, Behind(1)),
-        (Prepare(1, 10), None, Refused(10)),
-        (Prepare(1, 11), Some(Promise(1, 11)), Promised(1, 11, 10, 2)),
-        (Accept(1, 9, 4), None, Refused(10)),
-        (Accept(1, 10, 3), None, Accepted(1, 10)),
-        (Accept(1, 10, 4), Some(Vote(1, 10, 4)), Accepted(1, 10)),
-        (Learn(0, 4), None, Learned(1)),
-        (Learn(1, 4), Some(Close(1, 4)), Learned(2)),
-    ] {
-        let turned = turn(alloc, JOURNAL.as_slice(), asked)?;
-        assert_eq!(rt; turned, (appended, answered), "{asked:?}");
-    }
-    Ok(())
-}
-
 /// What a peer has whose votes were withheld: eight promises of node 0, up to ballot 40.
-const WITHHELD: [Word; 9] = [
+const WITHHELD: &[Word] = &[
     Open(1),
     Promise(0, 5),
     Promise(0, 10),
@@ -211,37 +181,72 @@ const WITHHELD: [Word; 9] = [
     Promise(0, 40),
 ];
 
-#[test]
-fn held_messages(rt: HostRuntime) -> Result<(), Fail> {
-    let alloc = rt.alloc();
-    for (asked, appended, answered) in [
-        (Accept(0, 5, 1), None, Refused(40)),
-        (Accept(0, 40, 1), Some(Vote(0, 40, 1)), Accepted(0, 40)),
-        (Learn(0, 1), Some(Close(0, 1)), Learned(1)),
-        (Prepare(0, 41), Some(Promise(0, 41)), Promised(0, 41, 0, 0)),
-    ] {
-        let turned = turn(alloc, WITHHELD.as_slice(), asked)?;
-        assert_eq!(rt; turned, (appended, answered), "{asked:?}");
+/// What a peer has that voted in ballot 5, and whose `Learn` was kept on the way; and once that was delivered.
+const SILENT: &[Word] = &[Open(1), Promise(0, 5), Vote(0, 5, 1)];
+
+const DELIVERED: &[Word] = &[Open(1), Promise(0, 5), Vote(0, 5, 1), Close(0, 1)];
+
+const ROWS: [Row; 21] = [
+    (JOURNAL, Status(0), None, At(1, 10, 1)),
+    (JOURNAL, Status(1), None, At(1, 10, 0)),
+    (JOURNAL, Prepare(0, 99), None, Known(0, 1)),
+    (JOURNAL, Accept(0, 99, 4), None, Known(0, 1)),
+    (JOURNAL, Prepare(2, 99), None, Behind(1)),
+    (JOURNAL, Accept(2, 99, 4), None, Behind(1)),
+    (JOURNAL, Learn(2, 4), None, Behind(1)),
+    (JOURNAL, Prepare(1, 10), None, Refused(10)),
+    (
+        JOURNAL,
+        Prepare(1, 11),
+        Some(Promise(1, 11)),
+        Promised(1, 11, 10, 2),
+    ),
+    (JOURNAL, Accept(1, 9, 4), None, Refused(10)),
+    (JOURNAL, Accept(1, 10, 3), None, Accepted(1, 10)),
+    (
+        JOURNAL,
+        Accept(1, 10, 4),
+        Some(Vote(1, 10, 4)),
+        Accepted(1, 10),
+    ),
+    (JOURNAL, Learn(0, 4), None, Learned(1)),
+    (JOURNAL, Learn(1, 4), Some(Close(1, 4)), Learned(2)),
+    // messages that were held, and come to a node that has promised more since
+    (WITHHELD, Accept(0, 5, 1), None, Refused(40)),
+    (
+        WITHHELD,
+        Accept(0, 40, 1),
+        Some(Vote(0, 40, 1)),
+        Accepted(0, 40),
+    ),
+    (WITHHELD, Learn(0, 1), Some(Close(0, 1)), Learned(1)),
+    (
+        WITHHELD,
+        Prepare(0, 41),
+        Some(Promise(0, 41)),
+        Promised(0, 41, 0, 0),
+    ),
+    // the kept message is delivered once, and then again
+    (SILENT, Learn(0, 1), Some(Close(0, 1)), Learned(1)),
+    (DELIVERED, Learn(0, 1), None, Learned(1)),
+    // an endpoint that works with it later is told its vote
+    (
+        SILENT,
+        Prepare(0, 6),
+        Some(Promise(0, 6)),
+        Promised(0, 6, 5, 1),
+    ),
+];
+
+fn check_all(rt: &(impl Abort + AllocGlobal), rows: &[Row]) -> Result<(), Fail> {
+    for (journal, asked, appended, answered) in rows {
+        let turned = turn(rt.alloc(), journal, *asked)?;
+        assert_eq!(rt; turned, (*appended, *answered), "{asked:?}");
     }
     Ok(())
 }
 
-/// What a peer has that voted in ballot 5, and whose `Learn` was kept on the way.
-const SILENT: [Word; 4] = [Open(1), Promise(0, 5), Vote(0, 5, 1), Close(0, 1)];
-
 #[test]
-fn silent_peers(rt: HostRuntime) -> Result<(), Fail> {
-    let alloc = rt.alloc();
-    for (entries, asked, appended, answered) in [
-        // the kept message is delivered once, and then again
-        (3usize, Learn(0, 1), Some(Close(0, 1)), Learned(1)),
-        (4, Learn(0, 1), None, Learned(1)),
-        // an endpoint that works with it later is told its vote
-        (3, Prepare(0, 6), Some(Promise(0, 6)), Promised(0, 6, 5, 1)),
-    ] {
-        let (journal, _) = SILENT.as_slice().split_at(entries.min(4));
-        let turned = turn(alloc, journal, asked)?;
-        assert_eq!(rt; turned, (appended, answered), "{asked:?}");
-    }
-    Ok(())
+fn each_row_of_the_table_is_appended_and_answered(rt: HostRuntime) -> Result<(), Fail> {
+    check_all(&rt, &ROWS)
 }
