@@ -188,6 +188,11 @@ call 0 0 0 UpdatePracticeRunConfiguration {"resourceIdentifier":"arn:arc:resourc
 ---- status 6
 script line 1: BadDate
 
+== a date with a time zone behind it
+call 0 0 0 UpdatePracticeRunConfiguration {"resourceIdentifier":"arn:arc:resource/0000000000000001","blockedDates":["2026-12-01[UTC]"]}
+---- status 6
+script line 1: BadDate
+
 == a date by its week
 call 0 0 0 UpdatePracticeRunConfiguration {"resourceIdentifier":"arn:arc:resource/0000000000000001","blockedDates":["2026-W01-1"]}
 ---- status 6
@@ -372,6 +377,11 @@ script line 1: BadWindow
 
 == a window by a day in another language
 call 0 0 0 UpdatePracticeRunConfiguration {"resourceIdentifier":"arn:arc:resource/0000000000000001","blockedWindows":["Mit:00:00-Tue:00:00"]}
+---- status 6
+script line 1: BadWindow
+
+== a window by a day with a letter wrong
+call 0 0 0 UpdatePracticeRunConfiguration {"resourceIdentifier":"arn:arc:resource/0000000000000001","blockedWindows":["Mod:00:00-Tue:00:00"]}
 ---- status 6
 script line 1: BadWindow
 
