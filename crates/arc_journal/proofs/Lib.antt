@@ -4,6 +4,7 @@ pub mod Fronts
 pub mod Appending
 pub mod Commons
 pub mod Entries
+pub mod Faults
 pub mod Walking
 pub mod Found
 pub mod Standing

@@ -25,6 +25,12 @@ module _ {D : Type 0} (moment : D → ℕ) (may_leave : D → List ℕ → Type 
     before = λ t image le left. ⊎_elim (so_far.before t image le) (λ now. inr (here image now)) (time.nothing_else t image (omega (arith, le, so_far.later)) left);
   }
 
+  -- one call, after which a crash leaves no more than before
+  pub kept_first : (old new : D) → ((image : List ℕ) → left_since old (moment old) image → may_leave old image) → moment old ≤ moment new
+      → Elapses moment may_leave left_since old new → ((image : List ℕ) → may_leave new image → may_leave old image) → LeavesOnly moment left_since old new (may_leave old)
+  kept_first old new only_now later time crash =
+      goes_on old old new (may_leave old) (started old (may_leave old) only_now (λ image left. left)) later time crash
+
 module _ {D : Type 0} (moment : D → ℕ) (left_since : D → ℕ → List ℕ → Type 0) where
   -- what has P has Q
   pub widened : (old new : D) (P Q : List ℕ → Type 0) → ((image : List ℕ) → P image → Q image)

@@ -1,7 +1,7 @@
 -- One entry more was read.
 use Rattle.std.proofs.Common.{◌≡◌, ◌≢◌, ℕ, zero, suc, ◌+◌, ◌≤◌, ◌<◌, Option, None, Some, List, [], ◌∷◌, ◌++◌, length, get_or, take, drop, map, refl, sym, ◌∙◌, ap, subst, arith, append_assoc, length-append, length-drop, take-append-drop, add-zero}
 use Rattle.std.proofs.Math.Seq.{take-add}
-use Rattle.std.proofs.lemmas.List.{take_at, drop_more, drop-drop}
+use Rattle.std.proofs.lemmas.List.{take_at, drop_more, drop-drop, length-take-le}
 use Rattle.std.proofs.lemmas.Bool.Decides.{nat_tests}
 use Rattle.arc_data.specs.declared.record.Record.{Record}
 use Rattle.arc_command.specs.Spelling.{record_bytes}
@@ -173,3 +173,11 @@ is_journal node slots records place image some most is_head so_far closed = reco
         ∙ ap (λ (l : List ℕ). (head node slots ++ entries (map record_bytes records)) ++ l) (gate_there slots records place image so_far);
   };
 }
+
+-- what was read ends where its entries do
+pub end_of_read : (slots : ℕ) (records : List Record) (place : ℕ) (image : List ℕ) → IsReadTo slots records place image → 16 < length image
+    → place ≡ 16 + length (entries (map record_bytes records))
+end_of_read slots records place image read long =
+    let all : length (take place image) ≡ place = length-take-le place image (omega (arith, read.within)) in
+    let first : length (take 16 image) ≡ 16 = length-take-le 16 image (omega (arith, long)) in
+    omega (arith, all, first, ap length read.front, length-append (take 16 image) (entries (map record_bytes records)))

@@ -15,7 +15,7 @@ use sha2::{Digest, Sha256};
 use std::alloc::Global;
 
 /// Why a body was not read.
-#[derive(Clone, Copy, PartialEq, Eq)]
+#[derive(Clone, Copy)]
 pub(crate) enum BodyEnd {
     /// It spells no record.
     NoRecord,
@@ -46,8 +46,10 @@ pub(crate) fn write_body(entry: &Record, out: &mut Vec<u8>) -> Result<(), Memory
     ensures reads { OnOk result (record_of (record_bytes entry.now) ≡ Some entry.now) }
 {
     spelled_entries_are_read();
-    encode_record(entry, out)?;
-    Ok(())
+    match encode_record(entry, out) {
+        Ok(()) => Ok(()),
+        Err(Memory) => Err(Memory),
+    }
 }
 
 /// Puts a number over the first four bytes.
@@ -73,7 +75,10 @@ fn close(out: &mut Vec<u8>) -> Result<(), Memory>
     ensures { OnOk result (out.new.items ≡ out.old.items ++ sha256 (drop 4 out.old.items) ++ 0 ∷ []) }
 {
     let digest = Sha256::digest(&out[4..]);
-    out.extend_from_slice(&digest)?;
+    match out.extend_from_slice(&digest) {
+        Ok(()) => {}
+        Err(_) => return Err(Memory),
+    }
     out.push(0)?;
     Ok(())
 }
@@ -85,10 +90,18 @@ pub(crate) fn seal(entry: &Record, out: &mut Vec<u8>) -> Result<(), Memory>
     ensures kept { (slots : ℕ) → is_below slots entry.now ≡ true → OnOk result (IsKept slots entry.now) }
 {
     out.clear();
-    put_u32(out, 0)?;
-    write_body(entry, out)?;
+    match put_u32(out, 0) {
+        Ok(()) => {}
+        Err(Memory) => return Err(Memory),
+    }
+    match write_body(entry, out) {
+        Ok(()) => {}
+        Err(Memory) => return Err(Memory),
+    }
     let len = (out.len() - 4) as u32;
     set_number(out, len);
-    close(out)?;
-    Ok(())
+    match close(out) {
+        Ok(()) => Ok(()),
+        Err(Memory) => Err(Memory),
+    }
 }

@@ -273,9 +273,19 @@ impl<D: Disk> Journal<D> {
 fn new_image(alloc: Global, node: u8, max_slots: u32) -> Result<Vec<u8>, Memory>
     ensures { IfOk result (λ v. v.items ≡ head node max_slots ++ 0 ∷ []) }
 {
-    let mut image = Vec::with_capacity(alloc, ENTRY_ROOM)?;
-    image.extend_from_slice(&signature(node))?;
-    put_u32(&mut image, max_slots)?;
-    image.push(0)?;
-    Ok(image)
+    let Ok(mut image) = Vec::with_capacity(alloc, ENTRY_ROOM) else {
+        return Err(Memory);
+    };
+    match image.extend_from_slice(&signature(node)) {
+        Ok(()) => {}
+        Err(_) => return Err(Memory),
+    }
+    match put_u32(&mut image, max_slots) {
+        Ok(()) => {}
+        Err(Memory) => return Err(Memory),
+    }
+    match image.push(0) {
+        Ok(()) => Ok(image),
+        Err(_) => Err(Memory),
+    }
 }

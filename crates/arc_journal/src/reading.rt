@@ -140,19 +140,14 @@ fn read_entry(
         Err(BodyEnd::Memory) => return Err(JournalEnd::Memory),
     };
     if !is_below(&entry, max_slots) {
-        return Err(unread(entry, place));
+        drop(entry);
+        return Err(JournalEnd::NotOurs { place });
     }
     if count >= entry_limit(max_slots) {
-        return Err(unread(entry, place));
+        drop(entry);
+        return Err(JournalEnd::NotOurs { place });
     }
     Ok((entry, body.len() + 36))
-}
-
-/// How the reading ends at an entry that the journal of this node can't have.
-fn unread(_entry: Record, place: u64) -> JournalEnd
-    ensures { result ≡ JournalEnd.NotOurs place }
-{
-    JournalEnd::NotOurs { place }
 }
 
 /// Keeps one item more.

@@ -1,8 +1,9 @@
 -- What was read is the image that the disk has, and by its bytes the journal is found or refused.
-use Rattle.std.proofs.Common.{◌≡◌, length, sym, ◌∙◌, ap, subst, rules}
+use Rattle.std.proofs.Common.{◌≡◌, ℕ, List, Some, length, sym, ◌∙◌, ap, subst, rules}
 use Rattle.arc_journal.specs.declared.journal.Journal.{Journal}
-use Rattle.arc_journal.specs.Image.{IsJournalOf, first_fault, records_of}
+use Rattle.arc_journal.specs.Image.{IsCausedBy, IsJournalOf, first_fault, records_of}
 use Rattle.arc_journal.proofs.Found.{journal_records, journal_faultless}
+use Rattle.arc_journal.proofs.Moments.{started}
 use Rattle.arc_journal.proofs.OpeningLemmas.{no_refusal_caused, no_refusal_faultless, opens_with_all, one_journal, settled_by}
 use Rattle.arc_journal.proofs.journal.Journal.adopt.Goals as goal
 
@@ -47,3 +48,14 @@ returns-clause-found g c = λ told slots records journal.
     let image = c.deref.ensures.value ∙ c.in-Ok-read_image.ensures.image told in
     one_journal c.args.node opening.max_slots slots opening.records.items records (g.D.Disk.content c.args.disk)
     (subst (IsJournalOf c.args.node opening.max_slots opening.records.items) image c.in-Ok-read_journal.ensures.journal) journal
+
+pub returns-in_default-clause-any_moment : goal.returns-in_default-clause-any_moment
+returns-in_default-clause-any_moment g c = λ told.
+    let disk = g.D.Disk in
+    started disk.moment disk.may_leave disk.left_since c.args.disk (disk.may_leave c.args.disk)
+    (λ image left. g.met.D.Disk.only_now c.args.disk image told left) (λ image left. left)
+
+pub returns-in-Err-read_journal-clause-refused : goal.returns-in-Err-read_journal-clause-refused
+returns-in-Err-read_journal-clause-refused g c = λ told other.
+    let image = c.deref.ensures.value ∙ c.in-Ok-read_image.ensures.image told in
+    subst (λ (l : List ℕ). IsCausedBy (Some c.in-Err-read_journal.end) (first_fault c.args.node l)) image c.in-Err-read_journal.ensures.fault

@@ -1,6 +1,6 @@
 -- What the append leaves at each moment, and how the journal stands after it.
-use Rattle.std.proofs.Common.{◌≡◌, ◌+◌, ◌≤◌, ◌<◌, ℕ, [], ◌∷◌, ◌++◌, length, Err, refl, ◌∙◌, ap, rules, arith}
-use Rattle.arc_journal.specs.Image.{records_of}
+use Rattle.std.proofs.Common.{◌≡◌, ◌+◌, ◌≤◌, ◌<◌, ℕ, [], ◌∷◌, ◌++◌, length, Err, inl, refl, sym, ◌∙◌, ap, subst, rules, arith}
+use Rattle.arc_journal.specs.Image.{IsJournalOf, records_of}
 use Rattle.arc_journal.specs.Layout.{entry_limit}
 use Rattle.arc_journal.specs.Torn.{TornInTurn}
 use Rattle.arc_journal.specs.Journal.{slots_of, count_of, IsBeforeOrWith}
@@ -8,7 +8,7 @@ use Rattle.arc_command.specs.Spelling.{record_bytes}
 use Rattle.arc_journal.specs.declared.journal.Journal.{Journal}
 use Rattle.arc_journal.proofs.Entries.{payload_is_short}
 use Rattle.arc_journal.proofs.Found.{journal_records}
-use Rattle.arc_journal.proofs.Moments.{widened}
+use Rattle.arc_journal.proofs.Moments.{started, widened}
 use Rattle.arc_journal.proofs.Standing.{with_records_of, gate_within, leaves_before_or_with, still_stands, stands_with_it}
 use Rattle.arc_journal.proofs.journal.Journal.append.Goals as goal
 
@@ -86,3 +86,19 @@ returns-clause-entries g c =
       refl,
       λ told. journal_records journal.node journal.max_slots (records ++ c.args.entry.now ∷ []) (disk.content c.write_entry.new.disk) (stands told).image,
     )
+
+pub returns-then-self-entry_limit-clause-any_moment : goal.returns-then-self-entry_limit-clause-any_moment
+returns-then-self-entry_limit-clause-any_moment g c = λ told.
+    let disk = g.D.Disk in let journal = c.args.self.now in let records = records_of (disk.content journal.disk) in
+    let stands = c.requires.settled.stands told in
+    started disk.moment disk.may_leave disk.left_since journal.disk (IsBeforeOrWith journal.node journal.max_slots records c.args.entry.now)
+    (λ image left. g.met.D.Disk.only_now journal.disk image told left)
+    (λ image left. inl (subst (IsJournalOf journal.node journal.max_slots records) (sym (stands.durable image left)) stands.image))
+
+pub returns-in-Err-clause-any_moment : goal.returns-in-Err-clause-any_moment
+returns-in-Err-clause-any_moment g c = λ told.
+    let disk = g.D.Disk in let journal = c.args.self.now in let records = records_of (disk.content journal.disk) in
+    let stands = c.requires.settled.stands told in
+    started disk.moment disk.may_leave disk.left_since journal.disk (IsBeforeOrWith journal.node journal.max_slots records c.args.entry.now)
+    (λ image left. g.met.D.Disk.only_now journal.disk image told left)
+    (λ image left. inl (subst (IsJournalOf journal.node journal.max_slots records) (sym (stands.durable image left)) stands.image))
