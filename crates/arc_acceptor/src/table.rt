@@ -61,7 +61,9 @@ fn only(reply: Answer) -> Turned
 fn known(alloc: Global, slot: u32, command: &Command) -> Result<Turned, Memory>
     ensures { IfOk result (λ t. turn_in t ≡ answers_only (Answer.Known slot command.now)) }
 {
-    let command = command.copy(alloc)?;
+    let Ok(command) = command.copy(alloc) else {
+        return Err(Memory);
+    };
     Ok(only(Answer::Known { slot, command }))
 }
 
@@ -71,7 +73,12 @@ fn status(alloc: Global, rs: &[Record], progress: Progress, slot: u32) -> Result
     ensures { IfOk result (λ t. turn_in t ≡ turn_of false rs.now (Message.Status slot)) }
 {
     let known = match applied_at(rs, slot) {
-        Some(command) => Some(command.copy(alloc)?),
+        Some(command) => {
+            let Ok(copy) = command.copy(alloc) else {
+                return Err(Memory);
+            };
+            Some(copy)
+        }
         None => None,
     };
     Ok(only(Answer::At {
@@ -131,7 +138,9 @@ fn copy_vote(alloc: Global, vote: Option<(u64, &Command)>) -> Result<Option<(u64
 {
     match vote {
         Some((ballot, command)) => {
-            let command = command.copy(alloc)?;
+            let Ok(command) = command.copy(alloc) else {
+                return Err(Memory);
+            };
             Ok(Some((ballot, command)))
         }
         None => Ok(None),
@@ -195,7 +204,9 @@ fn vote_here(
     if stands {
         return Ok(only(Answer::Accepted { slot, ballot }));
     }
-    let command = command.copy(alloc)?;
+    let Ok(command) = command.copy(alloc) else {
+        return Err(Memory);
+    };
     Ok(Turned {
         append: Some(Record::Voted {
             slot,
@@ -225,7 +236,9 @@ fn learn(
     if slot > length {
         return Ok(only(Answer::Behind { length }));
     }
-    let command = command.copy(alloc)?;
+    let Ok(command) = command.copy(alloc) else {
+        return Err(Memory);
+    };
     Ok(Turned {
         append: Some(Record::Closed { slot, command }),
         reply: Answer::Learned { length: length + 1 },

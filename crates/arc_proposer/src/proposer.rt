@@ -125,8 +125,10 @@ impl Proposer {
         if self.promises.get(peer).is_some() {
             return Ok(());
         }
-        let vote = copy_of(alloc, vote)?;
-        *self.promises.get_mut(peer) = Some(vote);
+        let Ok(vote) = copy_of(alloc, vote) else {
+            return Err(Memory);
+        };
+        drop(self.promises.get_mut(peer).replace(vote));
         Ok(())
     }
 
@@ -184,7 +186,9 @@ fn copy_of(alloc: Global, vote: &Option<(u64, Command)>) -> Result<Option<(u64, 
     match vote {
         None => Ok(None),
         Some((ballot, command)) => {
-            let command = command.copy(alloc)?;
+            let Ok(command) = command.copy(alloc) else {
+                return Err(Memory);
+            };
             Ok(Some((*ballot, command)))
         }
     }

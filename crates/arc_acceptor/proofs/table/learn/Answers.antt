@@ -32,6 +32,6 @@ returns c =
     let length : c.args.progress.length ≡ closed_len rs = ap (λ (p : Progress). p.length) c.requires.progress in
     let is : c.args.slot ≡ closed_len rs = omega (arith, c.if-slot-length.false, c.if-slot-length-2.false, length) in
     let here = appends (Closed c.args.slot c.args.command.now) (Learned (closed_len rs + 1)) in
-    ap (λ d. appends (Closed c.args.slot d) (Learned (c.args.progress.length + 1))) c.in_ok-command.ensures
+    ap (λ d. appends (Closed c.args.slot d) (Learned (c.args.progress.length + 1))) c.in-Ok.ensures
     ∙ ap (λ (n : ℕ). appends (Closed c.args.slot c.args.command.now) (Learned (n + 1))) length
     ∙ sym (ends_here rs c.args.slot (λ d. answers_only (Learned (closed_len rs))) here is)

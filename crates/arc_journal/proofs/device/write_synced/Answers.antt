@@ -34,13 +34,3 @@ returns-in-Err-sync-clause-calls g c =
     let disk = g.D.Disk in let old = c.args.disk.now in
     let wrote = well_first disk.moment disk.faults disk.stops_in disk.is_tame old c.write_at.new.self c.in-Ok.ensures.call c.in-Ok.ensures.stopped in
     (2, omega arith, omega arith, one_behind disk.moment disk.faults disk.stops_in disk.is_tame old c.write_at.new.self c.sync.new.self 1 true wrote c.in-Err-sync.ensures.call)
-
-pub returns-in-Err-clause-any_moment : goal.returns-in-Err-clause-any_moment
-returns-in-Err-clause-any_moment g c = λ told only.
-    let disk = g.D.Disk in let laws = g.met.D.Disk in
-    let old = c.args.disk.now in let torn_at = c.args.at in let len = length c.args.bytes.now in
-    let P = Torn torn_at len (disk.content old) in
-    let first = started disk.moment disk.may_leave disk.left_since old P (λ image left. laws.only_now old image told left)
-    (λ image left. subst (λ (l : List ℕ). Torn torn_at len (disk.content old) l) (sym (only image left)) (torn_nowhere torn_at len (disk.content old))) in
-    goes_on disk.moment disk.may_leave disk.left_since old old c.write_at.new.self P first c.write_at.ensures.call.later (c.write_at.ensures.time told)
-    (λ image left. let from = c.write_at.ensures.crash told image left in subst (λ (l : List ℕ). Torn torn_at len l image) (only from.0 from.1) from.2)
