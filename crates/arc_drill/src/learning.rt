@@ -56,7 +56,9 @@ fn tell<D: Disk>(alloc: Global, node: &mut Node<D>, message: Message) -> Learned
     ensures since { Since D.faults D.stops_in D.is_tame (disk_in node.old) (disk_in node.new) }
     ensures same { IsSameNode node.old node.new }
 {
-    handle(alloc, node, &message)
+    let learned = handle(alloc, node, &message);
+    drop(message);
+    learned
 }
 
 /// Tells a node a message.
@@ -69,7 +71,9 @@ fn handle<D: Disk>(alloc: Global, node: &mut Node<D>, message: &Message) -> Lear
     ensures same { IsSameNode node.old node.new }
 {
     let end = node.handle(alloc, message);
-    learned_of(&end)
+    let learned = learned_of(&end);
+    drop(end);
+    learned
 }
 
 /// How it ended, without the answer.

@@ -53,7 +53,9 @@ fn reopen<D: Rig>(alloc: Global, node: &mut Node<D>) -> Start
     ensures same { IsSameNode node.old node.new }
 {
     let end = node.restart(alloc);
-    end_of(&end)
+    let start = end_of(&end);
+    drop(end);
+    start
 }
 
 /// How a start ended, without the entries that were found.

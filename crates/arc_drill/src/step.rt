@@ -88,7 +88,9 @@ fn do_call<D: Rig>(
         return lines::fixed(alloc, "down 0\n");
     }
     let command = command_of(alloc, node.next_id(), at_ms, token, op)?;
-    place(alloc, node, state, length as u32, &command)
+    let line = place(alloc, node, state, length as u32, &command);
+    drop(command);
+    line
 }
 
 /// The command of a call.
@@ -151,7 +153,9 @@ fn answered(
     ensures { IfOk result (λ line. IsAnswered slot state.old state.new command.now line.items) }
 {
     let reply = state.apply(alloc, command)?;
-    lines::of_slot(alloc, slot, &reply)
+    let line = lines::of_slot(alloc, slot, &reply);
+    drop(reply);
+    line
 }
 
 /// Starts the node again.
@@ -180,6 +184,6 @@ fn catch_up<D: Disk>(alloc: Global, node: &Node<D>, state: &mut State) -> Result
     let Some(command) = node.command_at(state.count() as u32) else {
         return Ok(());
     };
-    let _reply = state.apply(alloc, command)?;
+    drop(state.apply(alloc, command)?);
     Ok(())
 }
