@@ -10,4 +10,4 @@ returns-clause-since g c =
     since_handled disk.moment disk.faults disk.stops_in disk.is_tame (kept old) (kept new) (disk_in old) (disk_in new) c.handle-end.result c.handle-end.ensures.calls
 
 pub returns-clause-handles : goal.returns-clause-handles
-returns-clause-handles g c = (c.handle-end.result, c.learned_of.ensures, c.handle-end.ensures.handles)
+returns-clause-handles g c = (c.handle-end.result, c.learned_of-learned.ensures, c.handle-end.ensures.handles)

@@ -10,7 +10,7 @@ returns-clause-starts g c =
     let disk = g.D.Disk in
     let old = c.args.node.now in
     let new = c.restart-end.new.self in
-    subst (StartsAgain disk.tells disk.faults old new) (sym c.end_of.ensures)
+    subst (StartsAgain disk.tells disk.faults old new) (sym c.end_of-start.ensures)
     (reopened disk.tells disk.content disk.faults old new c.restart-end.result c.restart-end.ensures.restarts
     (λ told. c.restart-end.ensures.honest told (reads_own disk.tells disk.content disk.may_leave g.met.D.Disk.reads_as_left old c.requires.in_order told)))
 

@@ -23,4 +23,4 @@ returns-in_default g c =
 pub returns : goal.returns
 returns g c =
     let known = rw (c.in-Some.is, c.count.ensures) at c.command_at.ensures in
-    caught_some c.args.state.now c.apply.new.self (applied (kept c.args.node.now)) c.in-Some.command.now _ c.requires.behind (sym known) c.in_ok-_reply.ensures.applies
+    caught_some c.args.state.now c.apply.new.self (applied (kept c.args.node.now)) c.in-Some.command.now _ c.requires.behind (sym known) c.in_ok-apply.ensures.applies

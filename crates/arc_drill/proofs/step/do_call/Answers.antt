@@ -46,15 +46,15 @@ returns-then-not-is_up-clause-does g c = λ told.
 pub returns-then-not-is_up-clause-ends : goal.returns-then-not-is_up-clause-ends
 returns-then-not-is_up-clause-ends g c = λ told. on_err c.fixed.result _ (ends_same g.D.Disk.faults c.args.node.now _)
 
-pub place-requires-clause-at_the_end : goal.place-requires-clause-at_the_end
-place-requires-clause-at_the_end g c =
+pub place-line-requires-clause-at_the_end : goal.place-line-requires-clause-at_the_end
+place-line-requires-clause-at_the_end g c =
     c.count-length.ensures ∙ (fit_count c.args.node.now c.args.state.now c.requires.fit ∙ applied_length (kept c.args.node.now))
 
-pub place-requires-clause-drawn : goal.place-requires-clause-drawn
-place-requires-clause-drawn g c =
+pub place-line-requires-clause-drawn : goal.place-line-requires-clause-drawn
+place-line-requires-clause-drawn g c =
     subst (λ (d : Command). IsDrawn (kept c.args.node.now) d.id) (sym c.in_ok-command.ensures) (c.next_id.ensures.inc, c.next_id.ensures.n)
 
 pub returns-clause-ends : goal.returns-clause-ends
 returns-clause-ends g c = λ told.
     let is = ap asked c.in_ok-command.ensures ∙ asked_is c.args.node.now c.args.state.now c.next_id.result c.args.at_ms c.args.token c.args.op.now c.requires.fit c.next_id.ensures.node in
-    subst (λ s. OnErr c.place.result (Ends g.D.Disk.faults c.args.node.now s c.place.new.node)) is (c.place.ensures.ends told)
+    subst (λ s. OnErr c.place-line.result (Ends g.D.Disk.faults c.args.node.now s c.place-line.new.node)) is (c.place-line.ensures.ends told)
