@@ -39,13 +39,10 @@ fn give(
         token: 0,
         op: op_of(alloc, name, body)?,
     };
-    let applied = state.apply(alloc, &command).is_ok();
+    let reply = state.apply(alloc, &command);
     drop(command);
-    if applied {
-        Ok(())
-    } else {
-        Err(Fail::from("no memory"))
-    }
+    drop(reply?);
+    Ok(())
 }
 
 /// The text that a state answers to a read now; none where the operation is no read.
@@ -56,9 +53,9 @@ fn answer(alloc: Global, state: &State, name: &str, body: &str) -> Result<Vec<u8
     match read {
         Some(read) => {
             let reply = state.answer_read(alloc, &read)?;
-            let text = reply_text(alloc, &reply)?.1;
+            let text = reply_text(alloc, &reply);
             drop(reply);
-            Ok(text)
+            Ok(text?.1)
         }
         None => Ok(Vec::new(alloc)),
     }

@@ -134,7 +134,9 @@ fn told(alloc: Global, entries: &[Record], asked: &Message) -> Result<(Option<Wo
     requires slot { IsLearnable asked.now }
 {
     let turned = answer(alloc, entries, asked)?;
-    Ok(shown(&turned))
+    let shown = shown(&turned);
+    drop(turned);
+    Ok(shown)
 }
 
 /// The same, where the message is made of a word.
@@ -143,7 +145,9 @@ fn asked(alloc: Global, entries: &[Record], asked: Word) -> Result<(Option<Word>
         return Err(Memory);
     }
     let message = message(asked);
-    told(alloc, entries, &message)
+    let told = told(alloc, entries, &message);
+    drop(message);
+    told
 }
 
 /// The same, where the entries are made of words.

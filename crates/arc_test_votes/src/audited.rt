@@ -368,7 +368,9 @@ const CHOSEN: [([&[Entry]; 5], u32, Name, bool); 4] = [
 fn choose(alloc: Global, rows: &[&[Entry]; 5], slot: u32, name: Name) -> bool {
     let js = journals(alloc, rows);
     let command = command(name);
-    chosen(&js, slot, &command)
+    let is_chosen = chosen(&js, slot, &command);
+    drop(command);
+    is_chosen
 }
 
 fn check_chosen(

@@ -19,6 +19,7 @@ fn show(proposer: &mut Proposer, shown: u32)
         known: None,
     };
     proposer.on_status(2, &at);
+    drop(at);
 }
 
 /// The ballot of an endpoint that promised one ballot, and whose peer shows another.
@@ -26,7 +27,9 @@ fn ballot_of(node: u8, promise: u32, shown: u32) -> u64 {
     let own = command(Name(0, 1, 0, 0));
     let mut proposer = Proposer::begin(node.min(4), 0, own, u64::from(promise));
     show(&mut proposer, shown);
-    proposer.ballot()
+    let ballot = proposer.ballot();
+    drop(proposer);
+    ballot
 }
 
 /// The endpoint, the ballot that it promised, the one that a peer shows, and its ballot.
@@ -75,16 +78,27 @@ fn promise(
         ballot: 5,
         vote: vote.map(|(ballot, token)| (ballot, command(Name(0, 1, 0, token)))),
     };
-    proposer.on_promise(alloc, peer, &told)
+    let done = proposer.on_promise(alloc, peer, &told);
+    drop(told);
+    done
+}
+
+/// These peers promise slot 7 in ballot 5, one after another.
+fn promise_all(alloc: Global, proposer: &mut Proposer, told: &[Told]) -> Result<(), Memory> {
+    for (peer, vote) in told {
+        promise(alloc, proposer, (*peer).min(4), *vote)?;
+    }
+    Ok(())
 }
 
 /// The token of what node 0 proposes at slot 7 in ballot 5, where its own command has the token 9.
 fn proposed(alloc: Global, told: &[Told]) -> Result<Option<u64>, Memory> {
     let mut proposer = Proposer::begin(0, 7, command(Name(0, 1, 0, 9)), 4);
-    for (peer, vote) in told {
-        promise(alloc, &mut proposer, (*peer).min(4), *vote)?;
-    }
-    Ok(proposer.proposal().map(|command| command.token))
+    let done = promise_all(alloc, &mut proposer, told);
+    let token = proposer.proposal().map(|command| command.token);
+    drop(proposer);
+    done?;
+    Ok(token)
 }
 
 const PROPOSALS: [(&[Told], Option<u64>); 6] = [
@@ -143,6 +157,7 @@ fn check_votes(rt: &impl Abort, proposer: &mut Proposer, rows: &[(u8, u32, u64, 
             ballot: *ballot,
         };
         proposer.on_accepted((*peer).min(4), &vote);
+        drop(vote);
         assert_eq!(rt; proposer.is_chosen(), *is_chosen);
     }
 }
@@ -151,4 +166,5 @@ fn check_votes(rt: &impl Abort, proposer: &mut Proposer, rows: &[(u8, u32, u64, 
 fn three_votes_in_the_ballot_choose(rt: HostRuntime) {
     let mut proposer = Proposer::begin(0, 7, command(Name(0, 1, 0, 9)), 4);
     check_votes(&rt, &mut proposer, &VOTES);
+    drop(proposer);
 }

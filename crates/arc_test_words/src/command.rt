@@ -1,6 +1,9 @@
 //! The bytes of commands and of entries, worked out by hand.
+ghost use Rattle.arc_data.specs.Valid.{IsValidCommand, IsValidRecord};
+
+use arc_bytes::Memory;
 use arc_command::{
-    Command, CommandEnd, CommandId, MAX_MS, decode, decode_record, encode, encode_record,
+    Command, CommandEnd, CommandId, MAX_MS, Record, decode, decode_record, encode, encode_record,
 };
 use arc_json::read_op;
 use std::alloc::Global;
@@ -175,40 +178,64 @@ fn row(alloc: Global, at: usize) -> Result<Vec<u8>, Fail> {
 
 /// Where the command at the front of these bytes ends.
 fn end_of(alloc: Global, bytes: &[u8]) -> Result<usize, CommandEnd> {
-    let (_, end) = decode(alloc, bytes)?;
+    let (command, end) = decode(alloc, bytes)?;
+    drop(command);
     Ok(end)
+}
+
+/// The spelling of a command.
+fn spelled(alloc: Global, command: &Command) -> Result<Vec<u8>, Memory>
+    requires { IsValidCommand command.now }
+{
+    let mut out = Vec::new(alloc);
+    encode(command, &mut out)?;
+    Ok(out)
+}
+
+/// The spelling of an entry.
+fn spelled_entry(alloc: Global, entry: &Record) -> Result<Vec<u8>, Memory>
+    requires { IsValidRecord entry.now }
+{
+    let mut out = Vec::new(alloc);
+    encode_record(entry, &mut out)?;
+    Ok(out)
 }
 
 /// The spelling of the command at the front of these bytes.
 fn again(alloc: Global, bytes: &[u8]) -> Result<Vec<u8>, CommandEnd> {
     let (command, _) = decode(alloc, bytes)?;
-    let mut out = Vec::new(alloc);
-    encode(&command, &mut out)?;
-    Ok(out)
+    let out = spelled(alloc, &command);
+    drop(command);
+    Ok(out?)
+}
+
+/// The spelling of the command of node 4 whose operation has this name and body.
+fn spelled_by_name(alloc: Global, name: &str, body: &str) -> Result<Vec<u8>, Fail> {
+    let Ok(op) = read_op(alloc, name.as_bytes(), body.as_bytes()) else {
+        return Err("a body of the table is read".into());
+    };
+    let id = CommandId {
+        node: 4,
+        inc: 1,
+        n: 2,
+    };
+    let command = Command {
+        id,
+        at_ms: MAX_MS,
+        token: 6,
+        op,
+    };
+    let out = spelled(alloc, &command);
+    drop(command);
+    Ok(out?)
 }
 
 #[test]
 fn the_bytes_of_operations(rt: HostRuntime) -> Result<(), Fail> {
     let alloc = rt.alloc();
     for (name, body, fields) in OPERATIONS {
-        let Ok(op) = read_op(alloc, name.as_bytes(), body.as_bytes()) else {
-            return Err("a body of the table is read".into());
-        };
-        let id = CommandId {
-            node: 4,
-            inc: 1,
-            n: 2,
-        };
-        let command = Command {
-            id,
-            at_ms: MAX_MS,
-            token: 6,
-            op,
-        };
-        let mut out = Vec::new(alloc);
-        encode(&command, &mut out)?;
         let bytes = [HEAD.as_slice(), fields].concat(alloc)?;
-        assert_eq!(rt; out, bytes, "{name} {body}");
+        assert_eq!(rt; spelled_by_name(alloc, name, body)?, bytes, "{name} {body}");
         assert_eq!(rt; again(alloc, &bytes)?, bytes, "{name} {body}");
     }
     Ok(())
@@ -304,6 +331,14 @@ const ENTRIES: [(&[u8], Option<usize>); 4] = [
     (&[4, 0, 0, 1, 2], Some(2)),
 ];
 
+/// The spelling of the entry that these bytes are.
+fn entry_again(alloc: Global, bytes: &[u8]) -> Result<Vec<u8>, CommandEnd> {
+    let entry = decode_record(alloc, bytes)?;
+    let out = spelled_entry(alloc, &entry);
+    drop(entry);
+    Ok(out?)
+}
+
 #[test]
 fn the_bytes_of_entries(rt: HostRuntime) -> Result<(), Fail> {
     let alloc = rt.alloc();
@@ -312,16 +347,13 @@ fn the_bytes_of_entries(rt: HostRuntime) -> Result<(), Fail> {
         if let Some(at) = at {
             bytes.extend_from_slice(row(alloc, at)?.as_slice())?;
         }
-        let record = decode_record(alloc, &bytes)?;
-        let mut out = Vec::new(alloc);
-        encode_record(&record, &mut out)?;
-        assert_eq!(rt; out, bytes);
+        assert_eq!(rt; entry_again(alloc, &bytes)?, bytes);
         // Nothing stands behind an entry.
         let place = bytes.len();
         bytes.push(7)?;
         assert_eq!(rt;
-            decode_record(alloc, &bytes).err(),
-            Some(CommandEnd::BadCommand { place })
+            entry_again(alloc, &bytes),
+            Err(CommandEnd::BadCommand { place })
         );
     }
     Ok(())
