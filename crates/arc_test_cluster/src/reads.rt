@@ -1,4 +1,7 @@
 //! Reads of a state beside its list of commands: each is answered at list time, and isn't counted.
+ghost use Rattle.std.specs.Prelude.{IfOk};
+ghost use Rattle.arc_data.specs.Valid.{IsValid};
+
 use arc_data::{Command, CommandId, MAX_MS, Op};
 use arc_json::{read_op, reply_text};
 use arc_state::{ReadOp, State};
@@ -12,7 +15,9 @@ const RUN_START: u64 = 347_400_000;
 const RUN_OVER: u64 = 349_200_000;
 
 /// The operation that a name and a body ask for.
-fn op_of(alloc: Global, name: &str, body: &str) -> Result<Op, Fail> {
+fn op_of(alloc: Global, name: &str, body: &str) -> Result<Op, Fail>
+    ensures { IfOk result IsValid }
+{
     match read_op(alloc, name.as_bytes(), body.as_bytes()) {
         Ok(op) => Ok(op),
         Err(_) => Err(Fail::from("no operation")),
