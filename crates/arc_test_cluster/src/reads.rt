@@ -150,18 +150,26 @@ const AFTER_IT: [(&str, &str, &str); 2] = [
     ),
 ];
 
-#[test]
-fn a_read_is_answered_at_list_time(rt: HostRuntime) -> Result<(), Fail> {
+/// Gives a fresh state commands, and asks it while a run is pending and when it is over. The state is lent, so that no exit
+/// of this function drops it.
+fn play(rt: &(impl Abort + AllocGlobal), state: &mut State) -> Result<(), Fail> {
     let alloc = rt.alloc();
-    let mut state = State::fresh(alloc)?;
-    give(alloc, &mut state, 0, REGISTER)?;
-    give(alloc, &mut state, 0, CONFIGURE)?;
-    give(alloc, &mut state, RUN_START, START)?;
-    check_all(&rt, &state, &IN_A_RUN)?;
+    give(alloc, state, 0, REGISTER)?;
+    give(alloc, state, 0, CONFIGURE)?;
+    give(alloc, state, RUN_START, START)?;
+    check_all(rt, state, &IN_A_RUN)?;
     assert_eq!(rt; state.count(), 3);
     // a command that is refused moves list time to the run's end
-    give(alloc, &mut state, RUN_OVER, END_AUTOSHIFT)?;
-    check_all(&rt, &state, &AFTER_IT)?;
+    give(alloc, state, RUN_OVER, END_AUTOSHIFT)?;
+    check_all(rt, state, &AFTER_IT)?;
     assert_eq!(rt; state.count(), 4);
     Ok(())
+}
+
+#[test]
+fn a_read_is_answered_at_list_time(rt: HostRuntime) -> Result<(), Fail> {
+    let mut state = State::fresh(rt.alloc())?;
+    let played = play(&rt, &mut state);
+    drop(state);
+    played
 }
