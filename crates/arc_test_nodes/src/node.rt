@@ -48,8 +48,12 @@ fn woken(alloc: Global, disk: MemoryDisk) -> Option<(bool, Option<u32>, usize, u
         return None;
     };
     let was_up = node.is_up();
-    let inc = told(&node.wake());
-    Some((was_up, inc, node.records().len(), node.next_id().n))
+    let start = node.wake();
+    let inc = told(&start);
+    drop(start);
+    let woken = (was_up, inc, node.records().len(), node.next_id().n);
+    drop(node);
+    Some(woken)
 }
 
 #[test]

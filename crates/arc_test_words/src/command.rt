@@ -7,6 +7,7 @@ use arc_command::{
 };
 use arc_json::read_op;
 use std::alloc::Global;
+use std::process::Abort;
 use std::test::Fail;
 
 /// What stands before the number of the operation: node 4, incarnation 1, number 2, `MAX_MS`, token 6.
@@ -230,15 +231,23 @@ fn spelled_by_name(alloc: Global, name: &str, body: &str) -> Result<Vec<u8>, Fai
     Ok(out?)
 }
 
-#[test]
-fn the_bytes_of_operations(rt: HostRuntime) -> Result<(), Fail> {
+/// Spells each operation, and reads and spells it again.
+fn check_operations(
+    rt: &(impl Abort + AllocGlobal),
+    rows: &[(&str, &str, &[u8])],
+) -> Result<(), Fail> {
     let alloc = rt.alloc();
-    for (name, body, fields) in OPERATIONS {
-        let bytes = [HEAD.as_slice(), fields].concat(alloc)?;
+    for (name, body, fields) in rows {
+        let bytes = [HEAD.as_slice(), *fields].concat(alloc)?;
         assert_eq!(rt; spelled_by_name(alloc, name, body)?, bytes, "{name} {body}");
         assert_eq!(rt; again(alloc, &bytes)?, bytes, "{name} {body}");
     }
     Ok(())
+}
+
+#[test]
+fn the_bytes_of_operations(rt: HostRuntime) -> Result<(), Fail> {
+    check_operations(&rt, &OPERATIONS)
 }
 
 /// A row, a place in its command, the byte that stands there instead, and where the command then ends, or the place
