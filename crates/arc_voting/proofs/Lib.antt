@@ -22,3 +22,5 @@ pub mod Tops
 pub mod Proposing
 pub mod Known
 pub mod Fronts
+pub mod Grown
+pub mod Handling

@@ -15,7 +15,8 @@ use Rattle.arc_data.specs.declared.record.Record.TheVariants.{Promised, Voted, C
 use Rattle.arc_voting.specs.Journals.{Journals, promises_of, with_entry}
 use Rattle.arc_voting.specs.Chosen.{HoldsVote, IsChosen}
 use Rattle.arc_voting.specs.Formed.{IsBallot, IsOneCommand, IsPromise, IsVote}
-use Rattle.arc_voting.specs.Lawful.{Mail, IsOwnVote, IsLawfulTo}
+use Rattle.arc_voting.specs.Lawful.{Mail, IsOwnVote, IsLawfulTo, StaysLawful}
+use Rattle.arc_voting.specs.Growth.{AreSame}
 use Rattle.arc_voting.specs.Lists.{applied, closed_by}
 use Rattle.arc_voting.specs.Handled.{appended, Handles, IsHandled, LawfulMailKeepsSound, HistoriesOnlyGrow}
 use Rattle.arc_voting.specs.Tracks.{IsWellFormedWhole}
@@ -24,21 +25,15 @@ use Rattle.arc_voting.proofs.Added.{AdmitsVote, Admits, added}
 use Rattle.arc_voting.proofs.Contained.{contains_head, contains_tail}
 use Rattle.arc_voting.proofs.Facts.{Facts, facts_of, sound_from}
 use Rattle.arc_voting.proofs.Growing.{IsStep, still, promises_grow, promises_more, chosen_still, starts_still}
-use Rattle.arc_voting.proofs.Same.{AreSame, chosen_over, promises_over, facts_over, replaced, replaced_here, replaced_other, with_entry_step}
+use Rattle.arc_voting.proofs.Same.{chosen_over, promises_over, facts_over, replaced, replaced_here, replaced_other, with_entry_step}
 use Rattle.arc_voting.proofs.Three.{below_five}
 use Rattle.arc_voting.proofs.Turns.{at_end_appends, promise_appends, vote_appends}
 use Rattle.arc_voting.proofs.Uses.{one_command, vote_in_range, no_promise_above}
 use Rattle.arc_voting.proofs.Walks.{on_votes_from}
 
--- a message that stays lawful, whatever else is handled first
-abbrev pub Lasts : Journals → Message → Type 0
-Lasts js (Status slot) = ⊤
-Lasts js (Prepare slot ballot) = (1 ≤ ballot) × (ballot ≤ 5 * (promises_of js + 1))
-Lasts js (Accept slot ballot c) = HoldsVote (js (ballot % 5)) slot ballot c
-Lasts js (Learn slot c) = IsChosen js slot c
-
+-- what stays lawful for the former journals does so for the later ones
 abbrev pub LastLonger : Journals → Journals → Type 0
-LastLonger js ks = (message : Message) → Lasts js message → Lasts ks message
+LastLonger js ks = (message : Message) → StaysLawful js message → StaysLawful ks message
 
 lasts_still : (js ks : Journals) (node : ℕ) (entry : Record) → IsStep js ks node entry → LastLonger js ks
 lasts_still js ks node entry step (Status slot) lasts = tt
@@ -112,7 +107,7 @@ as_closed P slot s c d same holds =
     subst Z two (subst X one holds)
 
 -- a promise in a higher ballot may be appended
-admits_promise : (js ks : Journals) (node slot ballot : ℕ) → Facts js → node < 5 → Lasts js (Prepare slot ballot) → promise (js node) < ballot →
+admits_promise : (js ks : Journals) (node slot ballot : ℕ) → Facts js → node < 5 → StaysLawful js (Prepare slot ballot) → promise (js node) < ballot →
     IsStep js ks node (Promised (closed_len (js node)) ballot) → Admits js ks node (Promised (closed_len (js node)) ballot)
 admits_promise js ks node slot ballot facts lt lasts above step =
     let formed : IsWellFormedWhole (promises_of js) (js node) = facts.formed node lt in
@@ -133,7 +128,7 @@ admits_promise js ks node slot ballot facts lt lasts above step =
     }
 
 -- a vote may be appended where the ballot's owner voted so
-admits_vote : (js ks : Journals) (node slot ballot : ℕ) (c : Command) → Facts js → node < 5 → Lasts js (Accept slot ballot c) →
+admits_vote : (js ks : Journals) (node slot ballot : ℕ) (c : Command) → Facts js → node < 5 → StaysLawful js (Accept slot ballot c) →
     slot ≡ closed_len (js node) → promise (js node) ≤ ballot → IsStep js ks node (Voted slot ballot c) →
     Admits js ks node (Voted slot ballot c)
 admits_vote js ks node slot ballot c facts lt vote end high step =
@@ -166,7 +161,7 @@ admits_vote js ks node slot ballot c facts lt vote end high step =
     }
 
 -- what was chosen may be closed
-admits_closed : (js ks : Journals) (node slot : ℕ) (c : Command) → Facts js → node < 5 → Lasts js (Learn slot c) → slot ≡ closed_len (js node) →
+admits_closed : (js ks : Journals) (node slot : ℕ) (c : Command) → Facts js → node < 5 → StaysLawful js (Learn slot c) → slot ≡ closed_len (js node) →
     IsStep js ks node (Closed slot c) → Admits js ks node (Closed slot c)
 admits_closed js ks node slot c facts lt chosen end step = record {
   of_five = lt;
@@ -176,15 +171,15 @@ admits_closed js ks node slot c facts lt chosen end step = record {
   closes = λ s d is. as_closed (IsChosen js) slot s c d is chosen;
 }
 
-no_entry : (turn other : Turn) (entry : Record) → turn ≡ other → other.append ≡ None → turn.append ≡ Some entry → ⊥
+pub no_entry : (turn other : Turn) (entry : Record) → turn ≡ other → other.append ≡ None → turn.append ≡ Some entry → ⊥
 no_entry turn other entry is none some =
     let e : turn.append ≡ None = ap (λ t. t.append) is ∙ none in cc
 
-some_is : (x y : Record) → Some x ≡ Some y → x ≡ y
+pub some_is : (x y : Record) → Some x ≡ Some y → x ≡ y
 some_is x y same = cc
 
 -- what the table appends for a message that lasts may be appended
-admits : (js ks : Journals) (node : ℕ) (message : Message) (turn : Turn) (entry : Record) → Facts js → node < 5 → Lasts js message →
+admits : (js ks : Journals) (node : ℕ) (message : Message) (turn : Turn) (entry : Record) → Facts js → node < 5 → StaysLawful js message →
     IsTurn (js node) message turn → turn.append ≡ Some entry → IsStep js ks node entry → Admits js ks node entry
 admits js ks node (Status slot) turn entry facts lt lasts (stands, iff, is) some step =
     absurd (no_entry turn (turn_of stands (js node) (Status slot)) entry is refl some)
@@ -221,7 +216,7 @@ all_same js ks node here others n lt =
 
 -- a node handles one message that lasts
 handle_case : (js ks : Journals) (node : ℕ) (message : Message) (turn : Turn) (o : Option Record) → Facts js → node < 5 →
-    Lasts js message → IsTurn (js node) message turn → turn.append ≡ o → ks node ≡ appended (js node) o →
+    StaysLawful js message → IsTurn (js node) message turn → turn.append ≡ o → ks node ≡ appended (js node) o →
     ((n : ℕ) → n < 5 → n ≢ node → ks n ≡ js n) → Facts ks × LastLonger js ks
 handle_case js ks node message turn None facts lt lasts is none here others =
     let same : AreSame js ks = all_same js ks node here others in
@@ -234,7 +229,7 @@ handle_case js ks node message turn (Some entry) facts lt lasts is some here oth
 -- all of these messages last
 abbrev pub AllLast : Journals → List Message → Type 0
 AllLast js [] = ⊤
-AllLast js (message ∷ later) = Lasts js message × AllLast js later
+AllLast js (message ∷ later) = StaysLawful js message × AllLast js later
 
 all_last : (js ks : Journals) (messages : List Message) → LastLonger js ks → AllLast js messages → AllLast ks messages
 all_last js ks [] longer lasts = tt
@@ -313,7 +308,7 @@ all_last_sound js after mail facts lasts handled =
 abbrev OwnVote : Journals → Mail → ℕ → Type 0
 OwnVote js mail node = (slot ballot : ℕ) × (c : Command) × IsOwnVote js mail node slot ballot c
 
-sorted_one : (js : Journals) (mail : Mail) (node : ℕ) (message : Message) → IsLawfulTo js mail node message → Lasts js message ⊎ OwnVote js mail node
+sorted_one : (js : Journals) (mail : Mail) (node : ℕ) (message : Message) → IsLawfulTo js mail node message → StaysLawful js message ⊎ OwnVote js mail node
 sorted_one js mail node (Status slot) lawful = inl tt
 sorted_one js mail node (Prepare slot ballot) lawful = inl lawful
 sorted_one js mail node (Accept slot ballot c) (inl vote) = inl vote

@@ -15,3 +15,6 @@ pub mod Lawful
 pub mod Laws
 pub mod Handled
 pub mod Proposal
+pub mod Growth
+pub mod Staying
+pub mod Order

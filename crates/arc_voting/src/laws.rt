@@ -2,6 +2,8 @@
 ghost use Rattle.arc_voting.specs.Journals.{Journals};
 ghost use Rattle.arc_voting.specs.Sound.{IsSound};
 ghost use Rattle.arc_voting.specs.Laws.{ChosenAreEqual, HaveOneHistory, IdsDiffer};
+ghost use Rattle.arc_voting.specs.Growth.{SameAreSound, VotesStay, ChosenStay};
+ghost use Rattle.arc_voting.specs.Staying.{HandledGrow, StaysWhileTheyGrow, StayingIsLawful, NoCommandBegins};
 ghost use Rattle.arc_voting.specs.Handled.{LawfulMailKeepsSound, HistoriesOnlyGrow, FrontsAreHandled};
 ghost use Rattle.arc_voting.specs.Proposal.{ProposalKeepsSound, StandingVoteIsTheProposal};
 
@@ -37,4 +39,21 @@ pub fn fronts_are_handled()
 pub fn proposals_keep_sound()
     ensures sound { ProposalKeepsSound }
     ensures standing { StandingVoteIsTheProposal }
+{}
+
+/// Journals that are the same at the five nodes are sound together. Nodes that handle mail only append, and in journals
+/// that grew each vote stands still, and what was chosen is chosen.
+pub fn journals_only_grow()
+    ensures same { SameAreSound }
+    ensures handled { HandledGrow }
+    ensures votes { VotesStay }
+    ensures chosen { ChosenStay }
+{}
+
+/// A message that stays lawful is lawful to any node, beside any other mail, and for all later journals. And whatever part
+/// of such mail is handled, no command gets its first vote by it.
+pub fn mail_stays_lawful()
+    ensures later { StaysWhileTheyGrow }
+    ensures lawful { StayingIsLawful }
+    ensures begun { NoCommandBegins }
 {}

@@ -46,7 +46,7 @@ pub use breach::{AuditEnd, Breach};
 pub use breaches::audit;
 pub use laws::{
     chosen_are_equal, fronts_are_handled, have_one_history, histories_only_grow,
-    lawful_mail_keeps_sound, proposals_keep_sound,
+    journals_only_grow, lawful_mail_keeps_sound, mail_stays_lawful, proposals_keep_sound,
 };
 pub use majority::chosen;
 pub use rule::Rule;

@@ -1,0 +1,78 @@
+-- Journals that only grew: what stood stands, what was chosen is chosen, and what stayed lawful does.
+use Rattle.std.proofs.Common.{◌≡◌, ℕ, ◌%◌, ◌+◌, ◌*◌, ◌<◌, ◌≤◌, cond, List, [], ◌∷◌, ◌++◌, take, inl, subst, sym, ◌∙◌, ap, arith, refl}
+use Rattle.std.specs.List.{Contains}
+use Rattle.std.proofs.lemmas.List.Elements.{Contains-append_left}
+use Rattle.std.proofs.lemmas.List.Sums.{sum_by-append}
+use Rattle.arc_data.specs.declared.command.Command.{Command}
+use Rattle.arc_data.specs.declared.message.Message.{Message}
+use Rattle.arc_data.specs.declared.message.Message.TheVariants.{Status, Prepare, Accept, Learn}
+use Rattle.arc_data.specs.declared.record.Record.{Record}
+use Rattle.arc_data.specs.declared.record.Record.TheVariants.{Voted}
+use Rattle.arc_voting.specs.Journals.{Journals, promises_of, promised_count, is_promised}
+use Rattle.arc_voting.specs.Chosen.{HoldsVote, IsChosen}
+use Rattle.arc_voting.specs.Growth.{AreSame, Grows, SameAreSound, VotesStay, ChosenStay}
+use Rattle.arc_voting.specs.Handled.{Handles, IsHandled}
+use Rattle.arc_voting.specs.Lawful.{Mail, IsLawfulTo, StaysLawful}
+use Rattle.arc_voting.specs.Staying.{HandledGrow, StaysWhileTheyGrow, StayingIsLawful}
+use Rattle.arc_voting.proofs.Facts.{facts_of, sound_from}
+use Rattle.arc_voting.proofs.Mailed.{only_appended}
+use Rattle.arc_voting.proofs.Same.{facts_over}
+use Rattle.arc_voting.proofs.Three.{by_three_map}
+
+pub same_are_sound : SameAreSound
+same_are_sound js ks same sound = sound_from ks (facts_over js ks same (facts_of js sound))
+
+-- what stood stands
+pub grown_holds : (js ks : Journals) (node : ℕ) (x : Record) → Grows js ks → node < 5 → Contains (js node) x → Contains (ks node) x
+grown_holds js ks node x grows lt there =
+    let more : (rest : List Record) × (ks node ≡ js node ++ rest) = grows node lt in
+    let P : List Record → Type 0 = λ xs. Contains xs x in
+    subst P (sym more.1) (Contains-append_left (js node) more.0 x there)
+
+pub votes_stay : VotesStay
+votes_stay js ks node slot ballot c grows lt there = grown_holds js ks node (Voted slot ballot c) grows lt there
+
+pub chosen_stay : ChosenStay
+chosen_stay js ks slot c grows (ballot, three) = (
+  ballot,
+  by_three_map (λ n. HoldsVote (js n) slot ballot c) (λ n. HoldsVote (ks n) slot ballot c)
+      (λ n lt there. grown_holds js ks n (Voted slot ballot c) grows lt there) three,
+)
+
+-- no promise is lost
+grown_count : (js ks : Journals) (node : ℕ) → Grows js ks → node < 5 → promised_count (js node) ≤ promised_count (ks node)
+grown_count js ks node grows lt =
+    let more : (rest : List Record) × (ks node ≡ js node ++ rest) = grows node lt in
+    let P : List Record → Type 0 = λ xs. promised_count (js node) ≤ promised_count xs in
+    let e : promised_count (js node ++ more.0) ≡ promised_count (js node) + promised_count more.0 =
+    sum_by-append (λ x. cond (is_promised x) 1 0) (js node) more.0 in
+    let le : promised_count (js node) ≤ promised_count (js node ++ more.0) = omega arith in
+    subst P (sym more.1) le
+
+pub grown_promises : (js ks : Journals) → Grows js ks → promises_of js ≤ promises_of ks
+grown_promises js ks grows =
+    let a : promised_count (js 0) ≤ promised_count (ks 0) = grown_count js ks 0 grows (omega arith) in
+    let b : promised_count (js 1) ≤ promised_count (ks 1) = grown_count js ks 1 grows (omega arith) in
+    let d : promised_count (js 2) ≤ promised_count (ks 2) = grown_count js ks 2 grows (omega arith) in
+    let e : promised_count (js 3) ≤ promised_count (ks 3) = grown_count js ks 3 grows (omega arith) in
+    let h : promised_count (js 4) ≤ promised_count (ks 4) = grown_count js ks 4 grows (omega arith) in
+    omega arith
+
+pub stays_while_they_grow : StaysWhileTheyGrow
+stays_while_they_grow js ks (Status slot) grows stays = tt
+stays_while_they_grow js ks (Prepare slot ballot) grows stays =
+    (stays.0, omega (arith, stays.1, grown_promises js ks grows))
+stays_while_they_grow js ks (Accept slot ballot c) grows stays =
+    grown_holds js ks (ballot % 5) (Voted slot ballot c) grows (omega arith) stays
+stays_while_they_grow js ks (Learn slot c) grows stays = chosen_stay js ks slot c grows stays
+
+pub staying_is_lawful : StayingIsLawful
+staying_is_lawful js mail node (Status slot) stays = tt
+staying_is_lawful js mail node (Prepare slot ballot) stays = stays
+staying_is_lawful js mail node (Accept slot ballot c) stays = inl stays
+staying_is_lawful js mail node (Learn slot c) stays = stays
+
+pub handled_grow : HandledGrow
+handled_grow js after mail handled node lt =
+    let own : (count : ℕ) × Handles (take count (mail node)) (js node) (after node) = handled node lt in
+    only_appended (take own.0 (mail node)) (js node) (after node) own.1
