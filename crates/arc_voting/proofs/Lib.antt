@@ -24,3 +24,5 @@ pub mod Known
 pub mod Fronts
 pub mod Grown
 pub mod Handling
+pub mod Ordering
+pub mod Starting

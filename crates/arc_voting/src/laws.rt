@@ -4,6 +4,7 @@ ghost use Rattle.arc_voting.specs.Sound.{IsSound};
 ghost use Rattle.arc_voting.specs.Laws.{ChosenAreEqual, HaveOneHistory, IdsDiffer};
 ghost use Rattle.arc_voting.specs.Growth.{SameAreSound, VotesStay, ChosenStay};
 ghost use Rattle.arc_voting.specs.Staying.{HandledGrow, StaysWhileTheyGrow, StayingIsLawful, NoCommandBegins};
+ghost use Rattle.arc_voting.specs.Order.{LawfulMailKeepsOrder, HandlingKeepsStarts, DrawnIdsAreNew, FirstStartsAreSound, NextStartKeepsSound};
 ghost use Rattle.arc_voting.specs.Handled.{LawfulMailKeepsSound, HistoriesOnlyGrow, FrontsAreHandled};
 ghost use Rattle.arc_voting.specs.Proposal.{ProposalKeepsSound, StandingVoteIsTheProposal};
 
@@ -56,4 +57,18 @@ pub fn mail_stays_lawful()
     ensures later { StaysWhileTheyGrow }
     ensures lawful { StayingIsLawful }
     ensures begun { NoCommandBegins }
+{}
+
+/// Lawful mail keeps the ids of each node's present start in order. Where they are so, what the node draws now was never
+/// voted for, and what it drew earlier in this start is lawful still.
+pub fn ids_stay_in_order()
+    ensures mail { LawfulMailKeepsOrder }
+    ensures starts { HandlingKeepsStarts }
+    ensures new { DrawnIdsAreNew }
+{}
+
+/// Five journals of a first start each are sound, with ids in order; and the next start of any node keeps them so.
+pub fn starts_keep_sound()
+    ensures first { FirstStartsAreSound }
+    ensures next { NextStartKeepsSound }
 {}
