@@ -26,3 +26,5 @@ pub mod Grown
 pub mod Handling
 pub mod Ordering
 pub mod Starting
+pub mod Rows
+pub mod Answering

@@ -18,3 +18,4 @@ pub mod Proposal
 pub mod Growth
 pub mod Staying
 pub mod Order
+pub mod Replies

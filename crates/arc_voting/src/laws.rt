@@ -5,6 +5,7 @@ ghost use Rattle.arc_voting.specs.Laws.{ChosenAreEqual, HaveOneHistory, IdsDiffe
 ghost use Rattle.arc_voting.specs.Growth.{SameAreSound, VotesStay, ChosenStay};
 ghost use Rattle.arc_voting.specs.Staying.{HandledGrow, StaysWhileTheyGrow, StayingIsLawful, NoCommandBegins};
 ghost use Rattle.arc_voting.specs.Order.{LawfulMailKeepsOrder, HandlingKeepsStarts, DrawnIdsAreNew, FirstStartsAreSound, NextStartKeepsSound};
+ghost use Rattle.arc_voting.specs.Replies.{AnswersAreFacts, CountedStays, ToldAreChosen, AppliedAreChosen, LearningReaches, LearnIsAnswered, PromiseIsGiven, VoteIsGiven};
 ghost use Rattle.arc_voting.specs.Handled.{LawfulMailKeepsSound, HistoriesOnlyGrow, FrontsAreHandled};
 ghost use Rattle.arc_voting.specs.Proposal.{ProposalKeepsSound, StandingVoteIsTheProposal};
 
@@ -71,4 +72,22 @@ pub fn ids_stay_in_order()
 pub fn starts_keep_sound()
     ensures first { FirstStartsAreSound }
     ensures next { NextStartKeepsSound }
+{}
+
+/// What each answer says of the journal of the node that gave it, before and after; that a counted promise is counted still
+/// when more is appended; and that what nodes of sound journals tell as closed is chosen.
+pub fn answers_are_facts()
+    ensures says { AnswersAreFacts }
+    ensures counted { CountedStays }
+    ensures told { ToldAreChosen }
+    ensures applied { AppliedAreChosen }
+{}
+
+/// A node that is told the commands that it lacks reaches the slot behind them; there it gives the promise that is asked for
+/// above its last one, and then the vote in that ballot.
+pub fn nodes_give_their_votes()
+    ensures reaches { LearningReaches }
+    ensures learned { LearnIsAnswered }
+    ensures promise { PromiseIsGiven }
+    ensures vote { VoteIsGiven }
 {}

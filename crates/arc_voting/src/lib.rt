@@ -45,9 +45,7 @@ pub use applied::applied_at;
 pub use breach::{AuditEnd, Breach};
 pub use breaches::audit;
 pub use laws::{
-    chosen_are_equal, fronts_are_handled, have_one_history, histories_only_grow, ids_stay_in_order,
-    journals_only_grow, lawful_mail_keeps_sound, mail_stays_lawful, proposals_keep_sound,
-    starts_keep_sound,
+    answers_are_facts, chosen_are_equal, fronts_are_handled, have_one_history, histories_only_grow, ids_stay_in_order, journals_only_grow, lawful_mail_keeps_sound, mail_stays_lawful, nodes_give_their_votes, proposals_keep_sound, starts_keep_sound,
 };
 pub use majority::chosen;
 pub use rule::Rule;
