@@ -28,3 +28,6 @@ pub mod Ordering
 pub mod Starting
 pub mod Rows
 pub mod Answering
+pub mod Bounding
+pub mod Owning
+pub mod Longest

@@ -19,3 +19,5 @@ pub mod Growth
 pub mod Staying
 pub mod Order
 pub mod Replies
+pub mod Bounds
+pub mod Owning

@@ -1,11 +1,13 @@
 //! What sound journals promise, each law as a call that does nothing.
 ghost use Rattle.arc_voting.specs.Journals.{Journals};
 ghost use Rattle.arc_voting.specs.Sound.{IsSound};
-ghost use Rattle.arc_voting.specs.Laws.{ChosenAreEqual, HaveOneHistory, IdsDiffer};
+ghost use Rattle.arc_voting.specs.Laws.{ChosenAreEqual, HaveOneHistory, IdsDiffer, LongestIsOne, EachBeginsTheLongest, LongestOnlyGrows};
 ghost use Rattle.arc_voting.specs.Growth.{SameAreSound, VotesStay, ChosenStay};
 ghost use Rattle.arc_voting.specs.Staying.{HandledGrow, StaysWhileTheyGrow, StayingIsLawful, NoCommandBegins};
 ghost use Rattle.arc_voting.specs.Order.{LawfulMailKeepsOrder, HandlingKeepsStarts, DrawnIdsAreNew, FirstStartsAreSound, NextStartKeepsSound};
 ghost use Rattle.arc_voting.specs.Replies.{AnswersAreFacts, CountedStays, ToldAreChosen, AppliedAreChosen, LearningReaches, LearnIsAnswered, PromiseIsGiven, VoteIsGiven};
+ghost use Rattle.arc_voting.specs.Bounds.{PromisesAreBounded, LeastBallotIsLawful, BallotsFit};
+ghost use Rattle.arc_voting.specs.Owning.{UnappliedMayBegin, DrawnMayBegin};
 ghost use Rattle.arc_voting.specs.Handled.{LawfulMailKeepsSound, HistoriesOnlyGrow, FrontsAreHandled};
 ghost use Rattle.arc_voting.specs.Proposal.{ProposalKeepsSound, StandingVoteIsTheProposal};
 
@@ -90,4 +92,26 @@ pub fn nodes_give_their_votes()
     ensures learned { LearnIsAnswered }
     ensures promise { PromiseIsGiven }
     ensures vote { VoteIsGiven }
+{}
+
+/// No promise of sound journals is above five times the number of promises, the least ballot above such may be asked for,
+/// and every ballot that may be fits 63 bits.
+pub fn ballots_are_bounded()
+    ensures promises { PromisesAreBounded }
+    ensures least { LeastBallotIsLawful }
+    ensures fit { BallotsFit }
+{}
+
+/// A command of the present start of a node of sound journals may begin at its open slot where no other command was voted
+/// for under its id and the node hasn't applied it, or where the node draws its id now.
+pub fn commands_may_begin()
+    ensures unapplied { UnappliedMayBegin }
+    ensures drawn { DrawnMayBegin }
+{}
+
+/// Each applied list of sound journals begins the longest one, which is one of them; and where each only grew, so did that.
+pub fn longest_list_only_grows()
+    ensures one { LongestIsOne }
+    ensures begins { EachBeginsTheLongest }
+    ensures grows { LongestOnlyGrows }
 {}

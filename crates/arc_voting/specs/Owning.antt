@@ -1,0 +1,21 @@
+-- Which command a node may begin.
+use Rattle.std.specs.Prelude.{ℕ, ◌≡◌, ◌<◌, Contains}
+use Rattle.arc_data.specs.Entries.{closed_len}
+use Rattle.arc_data.specs.declared.command.Command.{Command}
+use Rattle.arc_voting.specs.Journals.{Journals, last_inc}
+use Rattle.arc_voting.specs.Ids.{IdsAreInOrder, IsDrawn, IsAloneWithItsId}
+use Rattle.arc_voting.specs.Lists.{applied}
+use Rattle.arc_voting.specs.Proposal.{IsOwn}
+use Rattle.arc_voting.specs.Sound.{IsSound}
+
+-- A command of the node's present start that each vote with its id is for, and that the node hasn't applied, may begin at
+-- the node's open slot.
+abbrev pub UnappliedMayBegin : Type 0
+UnappliedMayBegin = (js : Journals) (node : ℕ) (c : Command) → IsSound js → node < 5 → c.id.node ≡ node →
+    c.id.inc ≡ last_inc (js node) → IsAloneWithItsId js c → ¬ Contains (applied (js node)) c →
+    IsOwn js node (closed_len (js node)) c
+
+-- So may one whose id the node draws now, where its ids are in order.
+abbrev pub DrawnMayBegin : Type 0
+DrawnMayBegin = (js : Journals) (node : ℕ) (c : Command) → IsSound js → node < 5 → IdsAreInOrder (js node) node →
+    IsDrawn (js node) node c.id → IsOwn js node (closed_len (js node)) c
