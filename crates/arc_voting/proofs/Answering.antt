@@ -17,12 +17,13 @@ use Rattle.arc_voting.specs.Chosen.{HoldsVote, IsChosen}
 use Rattle.arc_voting.specs.Handled.{appended, Handles}
 use Rattle.arc_voting.specs.Lists.{applied}
 use Rattle.arc_voting.specs.Proposal.{IsCounted}
-use Rattle.arc_voting.specs.Replies.{slot_of, HasPromised, HasAccepted, Says, AnswersAreFacts, CountedStays, ToldIsChosen, ToldAreChosen, AppliedAreChosen, learns, LearningReaches, LearnIsAnswered, PromiseIsGiven, VoteIsGiven}
+use Rattle.arc_voting.specs.Replies.{slot_of, HasPromised, HasAccepted, Says, AnswersAreFacts, CountedStays, CountedVoteStands, ToldIsChosen, ToldAreChosen, AppliedAreChosen, learns, LearningReaches, LearnIsAnswered, PromiseIsGiven, VoteIsGiven, NodeGivesItsVote}
 use Rattle.arc_voting.specs.Turn.{Turn, IsTurn, answers_only, appends, at_the_end, vote_turn, promise_turn, turn_of}
 use Rattle.arc_voting.proofs.Agreeing.{applied_is_chosen}
 use Rattle.arc_voting.proofs.Facts.{facts_of}
 use Rattle.arc_voting.proofs.Growing.{count_push}
 use Rattle.arc_voting.proofs.Promises.{promise_push}
+use Rattle.arc_voting.proofs.Proposing.{told_stands}
 use Rattle.arc_voting.proofs.Rows.{end_rows, promise_rows, vote_rows}
 use Rattle.arc_voting.proofs.Uses.{applied_length}
 
@@ -97,8 +98,6 @@ pub answers_are_facts : AnswersAreFacts
 answers_are_facts journal (Status slot) turn (stands, iff, is) =
     says_over journal (Status slot) turn (turn_of stands journal (Status slot)) is (refl, refl, refl, refl)
 answers_are_facts journal (Prepare slot ballot) turn (stands, iff, is) =
-    let below : Command → Turn = λ c. answers_only (Known slot c) in
-    let message : Message = Prepare slot ballot in
     elim (end_rows journal slot (λ c. answers_only (Known slot c)) (promise_turn journal slot ballot)) [
       | inl (c, known, e) ↦ says_over journal (Prepare slot ballot) turn (answers_only (Known slot c)) (is ∙ e) (refl, refl, known)
       | inr (inl (past, e)) ↦
@@ -145,8 +144,6 @@ answers_are_facts journal (Learn slot c) turn (stands, iff, is) =
 
 pub counted_stays : CountedStays
 counted_stays journal more slot ballot vote counted =
-    let before : List Record = counted.before in
-    let later : List Record = counted.later in
     let seam : (counted.before ++ Promised slot ballot ∷ counted.later) ++ more ≡ counted.before ++ Promised slot ballot ∷ (counted.later ++ more) =
     append_assoc counted.before (Promised slot ballot ∷ counted.later) more in
     record {
@@ -155,6 +152,10 @@ counted_stays journal more slot ballot vote counted =
       stands = ap (λ xs. xs ++ more) counted.stands ∙ seam;
       told = counted.told;
     }
+
+pub counted_vote_stands : CountedVoteStands
+counted_vote_stands journal slot ballot its_ballot c counted =
+    told_stands (λ n. journal) 0 slot ballot (Some (its_ballot, c)) (its_ballot, c) counted refl
 
 pub applied_are_chosen : AppliedAreChosen
 applied_are_chosen js node slot c sound lt at = applied_is_chosen js (facts_of js sound) node slot c lt at
@@ -223,7 +224,6 @@ learning_reaches journal after first [] is low high =
     let e : closed_len after ≡ first + 0 = omega (arith, l, low, high) in
     (e, ap promise is)
 learning_reaches journal after first (c ∷ later) (turn, is, rest) low high =
-    let next : List Record = appended journal turn.append in
     let one : (first + 1 ≤ closed_len (appended journal turn.append)) × (promise (appended journal turn.append) ≡ promise journal)
     × ((most : ℕ) → closed_len journal ≤ most → first + 1 ≤ most → closed_len (appended journal turn.append) ≤ most) =
     learned_one journal first c turn is low in
@@ -256,3 +256,18 @@ vote_is_given journal slot ballot c turn (stands, iff, is) here high =
         | inr (inr (le, f)) ↦ ap (λ (t : Turn). t.reply) (is ∙ e ∙ f)
       ]
     ]
+
+pub node_gives_its_vote : NodeGivesItsVote
+node_gives_its_vote journal reached first slot ballot commands c turn later handled low most is above asked voting =
+    let high : closed_len journal ≤ first + length commands = omega (arith, most, is) in
+    let there : (closed_len reached ≡ first + length commands) × (promise reached ≡ promise journal) =
+    learning_reaches journal reached first commands handled low high in
+    let here : slot ≡ closed_len reached = is ∙ sym there.0 in
+    let higher : promise reached < ballot = omega (arith, there.1, above) in
+    let first_answer : turn.reply ≡ Promise slot ballot (top_vote slot reached) =
+    promise_is_given reached slot ballot turn asked here higher in
+    let says : Says reached (Prepare slot ballot) (appended reached turn.append) (Promise slot ballot (top_vote slot reached)) =
+    subst (Says reached (Prepare slot ballot) (appended reached turn.append)) first_answer
+    (answers_are_facts reached (Prepare slot ballot) turn asked) in
+    let enough : promise (appended reached turn.append) ≤ ballot = omega (arith, says.1.latest) in
+    (first_answer, vote_is_given (appended reached turn.append) slot ballot c later voting (sym says.1.still_open) enough)

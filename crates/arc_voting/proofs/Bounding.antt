@@ -46,7 +46,6 @@ promises_are_bounded js node sound lt =
 -- a ballot of the node is among the next five
 near : (node shown : ℕ) → node < 5 → (other : ℕ) × (other % 5 ≡ node) × (shown < other) × (other ≤ shown + 5)
 near node shown lt =
-    let k : ℕ = (shown + 5 - node) / 5 in
     let own : ((shown + 5 - node) / 5 * 5 + node) % 5 ≡ node = omega arith in
     let above : shown < (shown + 5 - node) / 5 * 5 + node = omega arith in
     let low : (shown + 5 - node) / 5 * 5 + node ≤ shown + 5 = omega arith in

@@ -14,10 +14,11 @@ use Rattle.arc_data.specs.declared.record.Record.TheVariants.{Opened, Voted}
 use Rattle.arc_voting.specs.Journals.{Journals, promises_of, is_opened, opened_count, last_inc, since_opened}
 use Rattle.arc_voting.specs.Chosen.{HoldsVote, IsChosen}
 use Rattle.arc_voting.specs.Formed.{Fits}
+use Rattle.arc_voting.specs.Growth.{HasVote}
 use Rattle.arc_voting.specs.Handled.{IsHandled}
 use Rattle.arc_voting.specs.Ids.{StartsAtItsNode, IdsAreInOrder, IsDrawn, HasNoVoteOf, HasNoChosenOf}
 use Rattle.arc_voting.specs.Lawful.{Mail, IsOwnVote, IsLawfulTo, IsLawful, IsDrawnInOrder}
-use Rattle.arc_voting.specs.Order.{LawfulMailKeepsOrder, DrawnIdsAreNew}
+use Rattle.arc_voting.specs.Order.{LawfulMailKeepsOrder, DrawnIdsAreNew, VotedAreInOrder}
 use Rattle.arc_voting.specs.Sound.{IsSound}
 use Rattle.arc_voting.specs.Tracks.{IsWellFormedWhole}
 use Rattle.arc_voting.proofs.Contained.{contains_drop}
@@ -86,6 +87,11 @@ lawful_mail_keeps_order js after mail node sound lawful handled lt order = λ sl
       | inr (there, high, more) ↦
           came_in_order js after mail node slot ballot c facts lt here (lawful node (Accept slot ballot c) lt there) high more order home start
     ]
+
+pub voted_are_in_order : VotedAreInOrder
+voted_are_in_order js node c sound lt order (n, slot, ballot, small, held) = λ home inc.
+    let less : c.id.n < since_opened (js node) = number_below js n node slot ballot c (facts_of js sound) small held order home inc in
+    omega (arith, less)
 
 drawn_not_voted : (js : Journals) (node : ℕ) (id : CommandId) → Facts js → node < 5 → IdsAreInOrder (js node) node →
     IsDrawn (js node) node id → HasNoVoteOf js id

@@ -9,9 +9,11 @@ use Rattle.arc_data.specs.declared.record.Record.TheVariants.{Opened, Promised, 
 use Rattle.arc_voting.specs.Journals.{Journals, promises_of, inc_after, last_inc}
 use Rattle.arc_voting.specs.Chosen.{HoldsVote, IsChosen}
 use Rattle.arc_voting.specs.Formed.{Fits}
-use Rattle.arc_voting.specs.Ids.{IsNotChosenBelow, IsAloneWithItsId, HasNoVoteOf, HasNoChosenOf}
+use Rattle.arc_voting.specs.Ids.{IdsAreInOrder, IsNotChosenBelow, IsAloneWithItsId, HasNoVoteOf, HasNoChosenOf}
 use Rattle.arc_voting.specs.Lists.{applied}
-use Rattle.arc_voting.specs.Owning.{UnappliedMayBegin, DrawnMayBegin}
+use Rattle.arc_voting.specs.Owning.{UnappliedMayBegin, DrawnMayBegin, ProposalMayBegin}
+use Rattle.arc_voting.specs.Lawful.{IsDrawnInOrder}
+use Rattle.arc_voting.specs.Proposal.{Promises, IsProposal, MayPropose}
 use Rattle.arc_voting.specs.Sound.{IsSound}
 use Rattle.arc_voting.specs.Tracks.{IsWellFormedWhole}
 use Rattle.arc_voting.proofs.Agreeing.{applied_is_chosen, chosen_equal, settling}
@@ -19,7 +21,8 @@ use Rattle.arc_voting.proofs.Contained.{contains_head, contains_tail}
 use Rattle.arc_voting.proofs.Facts.{Facts, facts_of}
 use Rattle.arc_voting.proofs.Mailed.{not_empty}
 use Rattle.arc_voting.proofs.Meeting.{some_of_three}
-use Rattle.arc_voting.proofs.Ordering.{drawn_ids_are_new}
+use Rattle.arc_voting.proofs.Ordering.{drawn_ids_are_new, voted_are_in_order}
+use Rattle.arc_voting.proofs.Proposing.{told_stands, proposal_keeps_sound}
 use Rattle.arc_voting.proofs.Uses.{applied_length}
 
 later_stands : (x : Record) (journal : List Record) (so_far : ℕ) →
@@ -67,7 +70,6 @@ command_at xs k c at = (k, slice_get_within xs k c at, get_or_from_slice_get xs 
 not_chosen_below : (js : Journals) (node : ℕ) (c : Command) → Facts js → node < 5 → IsAloneWithItsId js c →
     (Contains (applied (js node)) c → ⊥) → IsNotChosenBelow js (closed_len (js node)) c
 not_chosen_below js node c facts lt alone unapplied lower d less (ballot, three) same =
-    let list : List Command = applied (js node) in
     let l : length (applied (js node)) ≡ closed_len (js node) = applied_length (js node) in
     let x : Command = get_or (applied (js node)) lower d in
     let at : slice_get (applied (js node)) lower ≡ Some x = slice_get-get_or (applied (js node)) lower d (omega arith) in
@@ -96,3 +98,20 @@ drawn_may_begin js node c sound lt order drawn =
     (λ (k, within, at).
     let there : slice_get (applied (js node)) k ≡ Some (get_or (applied (js node)) k c) = slice_get-get_or (applied (js node)) k c within in
     new.1 k c (applied_is_chosen js facts node k c lt (there ∙ ap Some at)) refl)
+
+-- the proposal is the own command, or has a vote
+proposal_in_order : (js : Journals) (promises : Promises) (endpoint slot ballot : ℕ) (own c : Command) → IsSound js →
+    MayPropose js promises endpoint slot ballot own → IsProposal promises own c → IdsAreInOrder (js endpoint) endpoint →
+    IsDrawnInOrder (js endpoint) endpoint own → IsDrawnInOrder (js endpoint) endpoint c
+proposal_in_order js promises endpoint slot ballot own c sound may (inl (is, untold)) order drawn =
+    subst (IsDrawnInOrder (js endpoint) endpoint) (sym is) drawn
+proposal_in_order js promises endpoint slot ballot own c sound may (inr (highest, (node, lt, told), most)) order drawn =
+    let vote : HoldsVote (js node) slot highest c =
+    told_stands js node slot ballot (Some (highest, c)) (highest, c) (may.counted node (Some (highest, c)) lt told) refl in
+    voted_are_in_order js endpoint c sound may.of_five order (node, slot, highest, lt, vote)
+
+pub proposal_may_begin : ProposalMayBegin
+proposal_may_begin js promises endpoint slot ballot own c sound may is none order drawn = (
+  proposal_keeps_sound js promises endpoint slot ballot own c sound may is none,
+  proposal_in_order js promises endpoint slot ballot own c sound may is order drawn,
+)

@@ -25,7 +25,6 @@ use Rattle.arc_voting.proofs.Same.{with_entry_step}
 lone_formed : (promises : ℕ) → IsWellFormedWhole promises (Opened 1 ∷ [])
 lone_formed promises zero = refl
 lone_formed promises (suc place) =
-    let P : Type 0 = 0 < suc place in
     let none : slice_get {X = Record} [] place ≡ None = slice_get_past [] place (omega arith) in
     let some : 0 < suc place = omega arith in
     subst (λ found. MatchOption found (0 < suc place) (λ entry. Fits promises (take (suc place) (Opened 1 ∷ [])) entry)) (sym none) some

@@ -4,6 +4,7 @@ use Rattle.arc_ids.specs.declared.command_id.CommandId.{CommandId}
 use Rattle.arc_data.specs.declared.command.Command.{Command}
 use Rattle.arc_data.specs.declared.record.Record.TheVariants.{Opened}
 use Rattle.arc_voting.specs.Journals.{Journals, with_entry, opened_count, last_inc, since_opened}
+use Rattle.arc_voting.specs.Growth.{HasVote}
 use Rattle.arc_voting.specs.Handled.{IsHandled}
 use Rattle.arc_voting.specs.Ids.{IdsAreInOrder, IsDrawn, HasNoVoteOf, HasNoChosenOf}
 use Rattle.arc_voting.specs.Lawful.{Mail, IsLawful, IsDrawnInOrder}
@@ -25,6 +26,11 @@ HandlingKeepsStarts = (js after : Journals) (mail : Mail) (node : ℕ) → IsHan
 abbrev pub DrawnIdsAreNew : Type 0
 DrawnIdsAreNew = (js : Journals) (node : ℕ) (id : CommandId) → IsSound js → node < 5 → IdsAreInOrder (js node) node →
     IsDrawn (js node) node id → HasNoVoteOf js id × HasNoChosenOf js id
+
+-- Where a node's ids are in order, each command that has a vote in sound journals has an id that is so at this node.
+abbrev pub VotedAreInOrder : Type 0
+VotedAreInOrder = (js : Journals) (node : ℕ) (c : Command) → IsSound js → node < 5 → IdsAreInOrder (js node) node →
+    HasVote js c → IsDrawnInOrder (js node) node c
 
 -- Each of the five nodes has its first start, and nothing else.
 abbrev pub AreFirstStarts : Journals → Type 0

@@ -4,8 +4,10 @@ use Rattle.arc_data.specs.Entries.{closed_len}
 use Rattle.arc_data.specs.declared.command.Command.{Command}
 use Rattle.arc_voting.specs.Journals.{Journals, last_inc}
 use Rattle.arc_voting.specs.Ids.{IdsAreInOrder, IsDrawn, IsAloneWithItsId}
+use Rattle.arc_voting.specs.Lawful.{IsDrawnInOrder, MayBeginVote}
 use Rattle.arc_voting.specs.Lists.{applied}
-use Rattle.arc_voting.specs.Proposal.{IsOwn}
+use Rattle.arc_voting.specs.Proposal.{Promises, IsProposal, IsOwn, MayPropose}
+use Rattle.arc_voting.specs.Settled.{HoldsNoVote}
 use Rattle.arc_voting.specs.Sound.{IsSound}
 
 -- A command of the node's present start that each vote with its id is for, and that the node hasn't applied, may begin at
@@ -19,3 +21,11 @@ UnappliedMayBegin = (js : Journals) (node : ℕ) (c : Command) → IsSound js �
 abbrev pub DrawnMayBegin : Type 0
 DrawnMayBegin = (js : Journals) (node : ℕ) (c : Command) → IsSound js → node < 5 → IdsAreInOrder (js node) node →
     IsDrawn (js node) node c.id → IsOwn js node (closed_len (js node)) c
+
+-- Where an endpoint may propose, holds no vote in that ballot, has its ids in order, and its own command is so, its vote
+-- for the proposal may begin.
+abbrev pub ProposalMayBegin : Type 0
+ProposalMayBegin =
+    (js : Journals) (promises : Promises) (endpoint slot ballot : ℕ) (own c : Command) → IsSound js →
+    MayPropose js promises endpoint slot ballot own → IsProposal promises own c → HoldsNoVote (js endpoint) slot ballot →
+    IdsAreInOrder (js endpoint) endpoint → IsDrawnInOrder (js endpoint) endpoint own → MayBeginVote js endpoint slot ballot c

@@ -79,6 +79,11 @@ abbrev pub CountedStays : Type 0
 CountedStays = (journal more : List Record) (slot ballot : ℕ) (vote : Option (ℕ × Command)) → IsCounted journal slot ballot vote →
     IsCounted (journal ++ more) slot ballot vote
 
+-- The vote that a counted promise told stands in the journal.
+abbrev pub CountedVoteStands : Type 0
+CountedVoteStands = (journal : List Record) (slot ballot its_ballot : ℕ) (c : Command) →
+    IsCounted journal slot ballot (Some (its_ballot, c)) → HoldsVote journal slot its_ballot c
+
 -- A command that is told as closed at a slot is chosen there.
 abbrev pub ToldIsChosen : Journals → Message → Answer → Type 0
 ToldIsChosen js message (At n ballot known) = IfSome known (λ c. IsChosen js (slot_of message) c)
@@ -125,3 +130,12 @@ PromiseIsGiven = (journal : List Record) (slot ballot : ℕ) (turn : Turn) → I
 abbrev pub VoteIsGiven : Type 0
 VoteIsGiven = (journal : List Record) (slot ballot : ℕ) (c : Command) (turn : Turn) → IsTurn journal (Accept slot ballot c) turn →
     slot ≡ closed_len journal → promise journal ≤ ballot → turn.reply ≡ Accepted slot ballot
+
+-- A node that is told the commands that it lacks below the slot, one after another, then promises a ballot there that is
+-- above its promise, and, with nothing between, votes in it.
+abbrev pub NodeGivesItsVote : Type 0
+NodeGivesItsVote = (journal reached : List Record) (first slot ballot : ℕ) (commands : List Command) (c : Command) (turn later : Turn) →
+    Handles (learns first commands) journal reached → first ≤ closed_len journal → closed_len journal ≤ slot →
+    slot ≡ first + length commands → promise journal < ballot →
+    IsTurn reached (Prepare slot ballot) turn → IsTurn (appended reached turn.append) (Accept slot ballot c) later →
+    (turn.reply ≡ Promise slot ballot (top_vote slot reached)) × (later.reply ≡ Accepted slot ballot)

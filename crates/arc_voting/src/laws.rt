@@ -4,10 +4,10 @@ ghost use Rattle.arc_voting.specs.Sound.{IsSound};
 ghost use Rattle.arc_voting.specs.Laws.{ChosenAreEqual, HaveOneHistory, IdsDiffer, LongestIsOne, EachBeginsTheLongest, LongestOnlyGrows};
 ghost use Rattle.arc_voting.specs.Growth.{SameAreSound, VotesStay, ChosenStay};
 ghost use Rattle.arc_voting.specs.Staying.{HandledGrow, StaysWhileTheyGrow, StayingIsLawful, NoCommandBegins};
-ghost use Rattle.arc_voting.specs.Order.{LawfulMailKeepsOrder, HandlingKeepsStarts, DrawnIdsAreNew, FirstStartsAreSound, NextStartKeepsSound};
-ghost use Rattle.arc_voting.specs.Replies.{AnswersAreFacts, CountedStays, ToldAreChosen, AppliedAreChosen, LearningReaches, LearnIsAnswered, PromiseIsGiven, VoteIsGiven};
+ghost use Rattle.arc_voting.specs.Order.{LawfulMailKeepsOrder, HandlingKeepsStarts, DrawnIdsAreNew, VotedAreInOrder, FirstStartsAreSound, NextStartKeepsSound};
+ghost use Rattle.arc_voting.specs.Replies.{AnswersAreFacts, CountedStays, CountedVoteStands, ToldAreChosen, AppliedAreChosen, LearningReaches, LearnIsAnswered, PromiseIsGiven, VoteIsGiven, NodeGivesItsVote};
 ghost use Rattle.arc_voting.specs.Bounds.{PromisesAreBounded, LeastBallotIsLawful, BallotsFit};
-ghost use Rattle.arc_voting.specs.Owning.{UnappliedMayBegin, DrawnMayBegin};
+ghost use Rattle.arc_voting.specs.Owning.{UnappliedMayBegin, DrawnMayBegin, ProposalMayBegin};
 ghost use Rattle.arc_voting.specs.Handled.{LawfulMailKeepsSound, HistoriesOnlyGrow, FrontsAreHandled};
 ghost use Rattle.arc_voting.specs.Proposal.{ProposalKeepsSound, StandingVoteIsTheProposal};
 
@@ -68,6 +68,7 @@ pub fn ids_stay_in_order()
     ensures mail { LawfulMailKeepsOrder }
     ensures starts { HandlingKeepsStarts }
     ensures new { DrawnIdsAreNew }
+    ensures voted { VotedAreInOrder }
 {}
 
 /// Five journals of a first start each are sound, with ids in order; and the next start of any node keeps them so.
@@ -81,6 +82,7 @@ pub fn starts_keep_sound()
 pub fn answers_are_facts()
     ensures says { AnswersAreFacts }
     ensures counted { CountedStays }
+    ensures stands { CountedVoteStands }
     ensures told { ToldAreChosen }
     ensures applied { AppliedAreChosen }
 {}
@@ -92,6 +94,7 @@ pub fn nodes_give_their_votes()
     ensures learned { LearnIsAnswered }
     ensures promise { PromiseIsGiven }
     ensures vote { VoteIsGiven }
+    ensures whole { NodeGivesItsVote }
 {}
 
 /// No promise of sound journals is above five times the number of promises, the least ballot above such may be asked for,
@@ -107,6 +110,7 @@ pub fn ballots_are_bounded()
 pub fn commands_may_begin()
     ensures unapplied { UnappliedMayBegin }
     ensures drawn { DrawnMayBegin }
+    ensures proposal { ProposalMayBegin }
 {}
 
 /// Each applied list of sound journals begins the longest one, which is one of them; and where each only grew, so did that.

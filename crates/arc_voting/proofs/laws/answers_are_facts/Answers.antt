@@ -1,4 +1,4 @@
-use Rattle.arc_voting.proofs.Answering.{answers_are_facts, counted_stays, told_are_chosen, applied_are_chosen}
+use Rattle.arc_voting.proofs.Answering.{answers_are_facts, counted_stays, told_are_chosen, applied_are_chosen, counted_vote_stands}
 use Rattle.arc_voting.proofs.laws.answers_are_facts.Goals as goal
 
 pub returns-clause-says : goal.returns-clause-says
@@ -12,3 +12,6 @@ returns-clause-told c = told_are_chosen
 
 pub returns-clause-applied : goal.returns-clause-applied
 returns-clause-applied c = applied_are_chosen
+
+pub returns-clause-stands : goal.returns-clause-stands
+returns-clause-stands c = counted_vote_stands

@@ -1,4 +1,4 @@
-use Rattle.arc_voting.proofs.Owning.{unapplied_may_begin, drawn_may_begin}
+use Rattle.arc_voting.proofs.Owning.{unapplied_may_begin, drawn_may_begin, proposal_may_begin}
 use Rattle.arc_voting.proofs.laws.commands_may_begin.Goals as goal
 
 pub returns-clause-unapplied : goal.returns-clause-unapplied
@@ -6,3 +6,6 @@ returns-clause-unapplied c = unapplied_may_begin
 
 pub returns-clause-drawn : goal.returns-clause-drawn
 returns-clause-drawn c = drawn_may_begin
+
+pub returns-clause-proposal : goal.returns-clause-proposal
+returns-clause-proposal c = proposal_may_begin
