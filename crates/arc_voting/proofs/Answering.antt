@@ -1,9 +1,8 @@
 -- Answers are facts of the node that gave them.
-use Rattle.std.proofs.Common.{◌≡◌, ℕ, zero, suc, ◌+◌, ◌<◌, ◌≤◌, ◌⊎◌, inl, inr, cond, Bool, true, Option, Some, None, IfSome, List, [], ◌∷◌, ◌++◌, length, subst, sym, ◌∙◌, ap, arith, refl, append_assoc}
-use Rattle.std.specs.List.{Contains, slice_get}
+use Rattle.std.proofs.Common.{◌≡◌, ℕ, ◌+◌, ◌<◌, ◌≤◌, ◌⊎◌, inl, inr, Option, Some, None, IfSome, List, [], ◌∷◌, ◌++◌, length, subst, sym, ◌∙◌, ap, arith, refl, append_assoc}
+use Rattle.std.specs.List.{slice_get}
 use Rattle.std.proofs.lemmas.List.Elements.{Contains-push}
-use Rattle.std.proofs.lemmas.Bool.{cases_lt}
-use Rattle.std.proofs.lemmas.Option.{slice_get_within, same_Some}
+use Rattle.std.proofs.lemmas.Option.{slice_get_within}
 use Rattle.arc_data.specs.Entries.{is_closed, closed_len, promise, top_vote}
 use Rattle.arc_data.specs.declared.command.Command.{Command}
 use Rattle.arc_data.specs.declared.message.Message.{Message}
@@ -14,11 +13,10 @@ use Rattle.arc_data.specs.declared.record.Record.{Record}
 use Rattle.arc_data.specs.declared.record.Record.TheVariants.{Promised, Voted, Closed}
 use Rattle.arc_voting.specs.Journals.{Journals}
 use Rattle.arc_voting.specs.Chosen.{HoldsVote, IsChosen}
-use Rattle.arc_voting.specs.Handled.{appended, Handles}
+use Rattle.arc_voting.specs.Handled.{appended}
 use Rattle.arc_voting.specs.Lists.{applied}
-use Rattle.arc_voting.specs.Proposal.{IsCounted}
-use Rattle.arc_voting.specs.Replies.{slot_of, HasPromised, HasAccepted, Says, AnswersAreFacts, CountedStays, CountedVoteStands, ToldIsChosen, ToldAreChosen, AppliedAreChosen, learns, LearningReaches, LearnIsAnswered, PromiseIsGiven, VoteIsGiven, NodeGivesItsVote}
-use Rattle.arc_voting.specs.Turn.{Turn, IsTurn, answers_only, appends, at_the_end, vote_turn, promise_turn, turn_of}
+use Rattle.arc_voting.specs.Replies.{slot_of, HasPromised, HasAccepted, Says, AnswersAreFacts, CountedStays, CountedVoteStands, ToldIsChosen, ToldAreChosen, AppliedAreChosen, LearningReaches, LearnIsAnswered, PromiseIsGiven, VoteIsGiven, NodeGivesItsVote}
+use Rattle.arc_voting.specs.Turn.{Turn, IsTurn, answers_only, appends, vote_turn, promise_turn, turn_of}
 use Rattle.arc_voting.proofs.Agreeing.{applied_is_chosen}
 use Rattle.arc_voting.proofs.Facts.{facts_of}
 use Rattle.arc_voting.proofs.Growing.{count_push}

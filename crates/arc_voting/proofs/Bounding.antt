@@ -1,5 +1,5 @@
 -- Ballots are bounded by the number of promises.
-use Rattle.std.proofs.Common.{◌≡◌, ℕ, zero, suc, ◌+◌, ◌-◌, ◌*◌, ◌/◌, ◌%◌, ◌^◌, ◌<◌, ◌≤◌, ◌⊎◌, inl, inr, List, length, take, subst, sym, ◌∙◌, ap, arith, refl}
+use Rattle.std.proofs.Common.{◌≡◌, ℕ, ◌+◌, ◌-◌, ◌*◌, ◌/◌, ◌%◌, ◌^◌, ◌<◌, ◌≤◌, ◌⊎◌, inl, inr, List, length, take, subst, sym, ◌∙◌, ap, arith}
 use Rattle.std.specs.List.{Contains}
 use Rattle.std.proofs.lemmas.List.{take_all}
 use Rattle.std.proofs.lemmas.List.Sums.{count_by-le-length}
@@ -7,9 +7,9 @@ use Rattle.arc_data.specs.Entries.{promise}
 use Rattle.arc_data.specs.declared.record.Record.{Record}
 use Rattle.arc_data.specs.declared.record.Record.TheVariants.{Promised}
 use Rattle.arc_voting.specs.declared.formed.Seen.{Seen}
-use Rattle.arc_voting.specs.Bounds.{PromisesAreBounded, IsLeastAbove, LeastBallotIsLawful, BallotsFit}
+use Rattle.arc_voting.specs.Bounds.{PromisesAreBounded, LeastBallotIsLawful, BallotsFit}
 use Rattle.arc_voting.specs.Formed.{IsBallot}
-use Rattle.arc_voting.specs.Journals.{Journals, promises_of, promised_count, is_promised}
+use Rattle.arc_voting.specs.Journals.{promises_of, promised_count, is_promised}
 use Rattle.arc_voting.specs.Tracks.{IsWellFormedWhole}
 use Rattle.arc_voting.specs.Walk.{Describes}
 use Rattle.arc_voting.proofs.Facts.{Facts, facts_of}

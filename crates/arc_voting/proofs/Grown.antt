@@ -1,18 +1,15 @@
 -- Journals that only grew: what stood stands, what was chosen is chosen, and what stayed lawful does.
-use Rattle.std.proofs.Common.{◌≡◌, ℕ, ◌%◌, ◌+◌, ◌*◌, ◌<◌, ◌≤◌, cond, List, [], ◌∷◌, ◌++◌, take, inl, subst, sym, ◌∙◌, ap, arith, refl}
+use Rattle.std.proofs.Common.{◌≡◌, ℕ, ◌%◌, ◌+◌, ◌<◌, ◌≤◌, cond, List, ◌++◌, take, inl, subst, sym, arith}
 use Rattle.std.specs.List.{Contains}
 use Rattle.std.proofs.lemmas.List.Elements.{Contains-append_left}
 use Rattle.std.proofs.lemmas.List.Sums.{sum_by-append}
-use Rattle.arc_data.specs.declared.command.Command.{Command}
-use Rattle.arc_data.specs.declared.message.Message.{Message}
 use Rattle.arc_data.specs.declared.message.Message.TheVariants.{Status, Prepare, Accept, Learn}
 use Rattle.arc_data.specs.declared.record.Record.{Record}
 use Rattle.arc_data.specs.declared.record.Record.TheVariants.{Voted}
 use Rattle.arc_voting.specs.Journals.{Journals, promises_of, promised_count, is_promised}
-use Rattle.arc_voting.specs.Chosen.{HoldsVote, IsChosen}
-use Rattle.arc_voting.specs.Growth.{AreSame, Grows, SameAreSound, VotesStay, ChosenStay}
-use Rattle.arc_voting.specs.Handled.{Handles, IsHandled}
-use Rattle.arc_voting.specs.Lawful.{Mail, IsLawfulTo, StaysLawful}
+use Rattle.arc_voting.specs.Chosen.{HoldsVote}
+use Rattle.arc_voting.specs.Growth.{Grows, SameAreSound, VotesStay, ChosenStay}
+use Rattle.arc_voting.specs.Handled.{Handles}
 use Rattle.arc_voting.specs.Staying.{HandledGrow, StaysWhileTheyGrow, StayingIsLawful}
 use Rattle.arc_voting.proofs.Facts.{facts_of, sound_from}
 use Rattle.arc_voting.proofs.Mailed.{only_appended}

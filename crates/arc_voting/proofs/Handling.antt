@@ -1,11 +1,10 @@
 -- What the entries that a node appends by the table say of its mail, and of its ids.
-use Rattle.std.proofs.Common.{◌≡◌, ℕ, zero, suc, ◌+◌, ◌%◌, ◌<◌, ◌≤◌, ◌⊎◌, inl, inr, if◌then◌else◌, Bool, Option, Some, None, List, [], ◌∷◌, ◌++◌, length, take, subst, sym, ◌∙◌, ap, arith, refl}
+use Rattle.std.proofs.Common.{◌≡◌, ℕ, ◌+◌, ◌%◌, ◌<◌, ◌≤◌, ◌⊎◌, inl, inr, if◌then◌else◌, Option, Some, None, List, [], ◌∷◌, ◌++◌, length, take, subst, sym, ◌∙◌, ap, arith, refl}
 use Rattle.std.specs.Prelude.{⊤}
-use Rattle.std.specs.List.{Contains, fold}
-use Rattle.std.proofs.lemmas.Bool.{cases_lt}
+use Rattle.std.specs.List.{Contains}
 use Rattle.std.proofs.lemmas.List.{length_push}
 use Rattle.std.proofs.lemmas.List.Sums.{fold_push}
-use Rattle.std.proofs.lemmas.List.Elements.{Contains-append_left, Contains-push_cases}
+use Rattle.std.proofs.lemmas.List.Elements.{Contains-push_cases}
 use Rattle.arc_data.specs.Entries.{closed_len, promise}
 use Rattle.arc_data.specs.declared.command.Command.{Command}
 use Rattle.arc_data.specs.declared.message.Message.{Message}
@@ -15,15 +14,14 @@ use Rattle.arc_data.specs.declared.record.Record.{Record}
 use Rattle.arc_data.specs.declared.record.Record.TheVariants.{Opened, Promised, Voted, Closed}
 use Rattle.arc_voting.specs.Journals.{Journals, is_opened, inc_after, last_inc, since_opened}
 use Rattle.arc_voting.specs.Chosen.{HoldsVote}
-use Rattle.arc_voting.specs.Growth.{HasVote}
 use Rattle.arc_voting.specs.Handled.{appended, Handles, IsHandled}
-use Rattle.arc_voting.specs.Lawful.{Mail, StaysLawful, IsDrawnInOrder}
+use Rattle.arc_voting.specs.Lawful.{Mail}
 use Rattle.arc_voting.specs.Order.{HandlingKeepsStarts}
 use Rattle.arc_voting.specs.Staying.{NoCommandBegins}
 use Rattle.arc_voting.specs.Turn.{Turn, IsTurn, answers_only, appends, vote_turn, promise_turn, turn_of}
 use Rattle.arc_voting.proofs.Contained.{contains_head, contains_tail, contains_take}
 use Rattle.arc_voting.proofs.Mailed.{some_is, no_entry}
-use Rattle.arc_voting.proofs.Promises.{promise_push, promise_after}
+use Rattle.arc_voting.proofs.Promises.{promise_push}
 use Rattle.arc_voting.proofs.Turns.{at_end_appends, promise_appends, vote_appends}
 
 -- an entry that the table appends for a message: no start, a higher promise, or the vote that was asked for, in a ballot

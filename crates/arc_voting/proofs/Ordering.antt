@@ -1,25 +1,19 @@
 -- Ids that are in order stay so, and what is drawn is new.
-use Rattle.std.proofs.Common.{◌≡◌, ◌≢◌, ℕ, zero, suc, ◌+◌, ◌%◌, ◌<◌, ◌≤◌, ◌⊎◌, inl, inr, cond, Bool, Option, Some, None, List, [], ◌∷◌, ◌++◌, length, take, drop, subst, sym, ◌∙◌, ap, arith, refl}
-use Rattle.std.specs.List.{Contains, slice_get}
-use Rattle.std.proofs.lemmas.Bool.{cases_lt}
+use Rattle.std.proofs.Common.{◌≡◌, ℕ, ◌+◌, ◌%◌, ◌<◌, ◌≤◌, inl, inr, cond, Some, List, length, take, drop, subst, sym, ◌∙◌, ap, arith}
+use Rattle.std.specs.List.{slice_get}
 use Rattle.std.proofs.lemmas.List.Sums.{sum_by-take-le}
-use Rattle.std.proofs.lemmas.Option.{slice_get_within, slice_get-get_or, get_or_from_slice_get}
+use Rattle.std.proofs.lemmas.Option.{slice_get_within, get_or_from_slice_get}
 use Rattle.arc_ids.specs.declared.command_id.CommandId.{CommandId}
 use Rattle.arc_data.specs.Entries.{promise}
 use Rattle.arc_data.specs.declared.command.Command.{Command}
-use Rattle.arc_data.specs.declared.message.Message.{Message}
 use Rattle.arc_data.specs.declared.message.Message.TheVariants.{Accept}
 use Rattle.arc_data.specs.declared.record.Record.{Record}
 use Rattle.arc_data.specs.declared.record.Record.TheVariants.{Opened, Voted}
-use Rattle.arc_voting.specs.Journals.{Journals, promises_of, is_opened, opened_count, last_inc, since_opened}
-use Rattle.arc_voting.specs.Chosen.{HoldsVote, IsChosen}
-use Rattle.arc_voting.specs.Formed.{Fits}
-use Rattle.arc_voting.specs.Growth.{HasVote}
-use Rattle.arc_voting.specs.Handled.{IsHandled}
-use Rattle.arc_voting.specs.Ids.{StartsAtItsNode, IdsAreInOrder, IsDrawn, HasNoVoteOf, HasNoChosenOf}
-use Rattle.arc_voting.specs.Lawful.{Mail, IsOwnVote, IsLawfulTo, IsLawful, IsDrawnInOrder}
+use Rattle.arc_voting.specs.Journals.{Journals, is_opened, opened_count, last_inc, since_opened}
+use Rattle.arc_voting.specs.Chosen.{HoldsVote}
+use Rattle.arc_voting.specs.Ids.{StartsAtItsNode, IdsAreInOrder, IsDrawn, HasNoVoteOf}
+use Rattle.arc_voting.specs.Lawful.{Mail, IsLawfulTo}
 use Rattle.arc_voting.specs.Order.{LawfulMailKeepsOrder, DrawnIdsAreNew, VotedAreInOrder}
-use Rattle.arc_voting.specs.Sound.{IsSound}
 use Rattle.arc_voting.specs.Tracks.{IsWellFormedWhole}
 use Rattle.arc_voting.proofs.Contained.{contains_drop}
 use Rattle.arc_voting.proofs.Facts.{Facts, facts_of}

@@ -1,5 +1,5 @@
 -- A command that a node hasn't applied may begin at its open slot.
-use Rattle.std.proofs.Common.{◌≡◌, ℕ, zero, suc, ◌<◌, ◌≤◌, ◌⊎◌, inl, inr, Some, List, [], ◌∷◌, length, get_or, subst, sym, ◌∙◌, ap, arith, refl}
+use Rattle.std.proofs.Common.{◌≡◌, ℕ, ◌<◌, ◌⊎◌, inl, inr, Some, List, [], ◌∷◌, length, get_or, subst, sym, ◌∙◌, ap, arith, refl}
 use Rattle.std.specs.List.{Contains, slice_get, fold}
 use Rattle.std.proofs.lemmas.Option.{slice_get_within, slice_get-get_or, get_or_from_slice_get}
 use Rattle.arc_data.specs.Entries.{closed_len}
@@ -7,7 +7,7 @@ use Rattle.arc_data.specs.declared.command.Command.{Command}
 use Rattle.arc_data.specs.declared.record.Record.{Record}
 use Rattle.arc_data.specs.declared.record.Record.TheVariants.{Opened, Promised, Voted, Closed}
 use Rattle.arc_voting.specs.Journals.{Journals, promises_of, inc_after, last_inc}
-use Rattle.arc_voting.specs.Chosen.{HoldsVote, IsChosen}
+use Rattle.arc_voting.specs.Chosen.{HoldsVote}
 use Rattle.arc_voting.specs.Formed.{Fits}
 use Rattle.arc_voting.specs.Ids.{IdsAreInOrder, IsNotChosenBelow, IsAloneWithItsId, HasNoVoteOf, HasNoChosenOf}
 use Rattle.arc_voting.specs.Lists.{applied}

@@ -1,17 +1,16 @@
 -- First starts, and the next start of a node.
-use Rattle.std.proofs.Common.{◌≡◌, ◌≢◌, ℕ, zero, suc, ◌+◌, ◌<◌, ◌≤◌, inl, inr, Some, None, MatchOption, List, [], ◌∷◌, ◌++◌, take, subst, sym, ◌∙◌, ap, arith, refl}
+use Rattle.std.proofs.Common.{◌≡◌, ℕ, zero, suc, ◌+◌, ◌<◌, ◌≤◌, inl, inr, None, MatchOption, List, [], ◌∷◌, ◌++◌, take, subst, sym, arith, refl}
 use Rattle.std.specs.List.{Contains, slice_get}
 use Rattle.std.proofs.lemmas.List.Elements.{Contains-push_cases}
 use Rattle.std.proofs.lemmas.Option.{slice_get_past}
 use Rattle.arc_data.specs.declared.command.Command.{Command}
 use Rattle.arc_data.specs.declared.record.Record.{Record}
 use Rattle.arc_data.specs.declared.record.Record.TheVariants.{Opened, Voted, Closed}
-use Rattle.arc_voting.specs.Journals.{Journals, promises_of, with_entry, opened_count, last_inc, since_opened}
+use Rattle.arc_voting.specs.Journals.{Journals, promises_of, opened_count, last_inc}
 use Rattle.arc_voting.specs.Chosen.{HoldsVote}
 use Rattle.arc_voting.specs.Formed.{Fits}
 use Rattle.arc_voting.specs.Ids.{IdsAreInOrder}
 use Rattle.arc_voting.specs.Order.{AreFirstStarts, with_start, FirstStartsAreSound, NextStartKeepsSound}
-use Rattle.arc_voting.specs.Sound.{IsSound, IsWellFormedIn}
 use Rattle.arc_voting.specs.Tracks.{IsWellFormedWhole}
 use Rattle.arc_voting.proofs.Added.{Admits, added}
 use Rattle.arc_voting.proofs.Contained.{contains_cons}

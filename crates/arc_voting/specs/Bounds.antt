@@ -1,5 +1,5 @@
 -- How high ballots are.
-use Rattle.std.specs.Prelude.{ℕ, ◌≡◌, ◌<◌, ◌≤◌, ◌+◌, ◌*◌, ◌%◌, ◌^◌}
+use Rattle.std.specs.Prelude.{ℕ, ◌≡◌, ◌<◌, ◌≤◌, ◌*◌, ◌%◌, ◌^◌}
 use Rattle.arc_data.specs.Entries.{promise}
 use Rattle.arc_data.specs.declared.message.Message.TheVariants.{Prepare}
 use Rattle.arc_voting.specs.Journals.{Journals, promises_of}

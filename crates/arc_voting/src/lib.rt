@@ -45,7 +45,10 @@ pub use applied::applied_at;
 pub use breach::{AuditEnd, Breach};
 pub use breaches::audit;
 pub use laws::{
-    answers_are_facts, ballots_are_bounded, chosen_are_equal, commands_may_begin, fronts_are_handled, have_one_history, histories_only_grow, ids_stay_in_order, journals_only_grow, lawful_mail_keeps_sound, longest_list_only_grows, mail_stays_lawful, nodes_give_their_votes, proposals_keep_sound, starts_keep_sound,
+    answers_are_facts, ballots_are_bounded, chosen_are_equal, commands_may_begin,
+    fronts_are_handled, have_one_history, histories_only_grow, ids_stay_in_order,
+    journals_only_grow, lawful_mail_keeps_sound, longest_list_only_grows, mail_stays_lawful,
+    nodes_give_their_votes, proposals_keep_sound, starts_keep_sound,
 };
 pub use majority::chosen;
 pub use rule::Rule;
