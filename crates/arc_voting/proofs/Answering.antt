@@ -1,8 +1,8 @@
 -- Answers are facts of the node that gave them.
-use Rattle.std.proofs.Common.{◌≡◌, ℕ, ◌+◌, ◌<◌, ◌≤◌, ◌⊎◌, inl, inr, Option, Some, None, IfSome, List, [], ◌∷◌, ◌++◌, length, subst, sym, ◌∙◌, ap, arith, refl, append_assoc}
+use Rattle.std.proofs.Common.{◌≡◌, ℕ, ◌+◌, ◌<◌, ◌≤◌, ◌⊎◌, inl, inr, Option, Some, None, IfSome, List, [], ◌∷◌, ◌++◌, length, get_or, subst, sym, ◌∙◌, ap, arith, refl, append_assoc}
 use Rattle.std.specs.List.{slice_get}
 use Rattle.std.proofs.lemmas.List.Elements.{Contains-push}
-use Rattle.std.proofs.lemmas.Option.{slice_get_within}
+use Rattle.std.proofs.lemmas.Option.{slice_get-get_or, slice_get_within}
 use Rattle.arc_data.specs.Entries.{is_closed, closed_len, promise, top_vote}
 use Rattle.arc_data.specs.declared.command.Command.{Command}
 use Rattle.arc_data.specs.declared.message.Message.{Message}
@@ -15,9 +15,9 @@ use Rattle.arc_voting.specs.Journals.{Journals}
 use Rattle.arc_voting.specs.Chosen.{HoldsVote, IsChosen}
 use Rattle.arc_voting.specs.Handled.{appended}
 use Rattle.arc_voting.specs.Lists.{applied}
-use Rattle.arc_voting.specs.Replies.{slot_of, HasPromised, HasAccepted, Says, AnswersAreFacts, CountedStays, CountedVoteStands, ToldIsChosen, ToldAreChosen, AppliedAreChosen, LearningReaches, LearnIsAnswered, PromiseIsGiven, VoteIsGiven, NodeGivesItsVote}
+use Rattle.arc_voting.specs.Replies.{VotedByThreeIsChosen, ChosenAreApplied, slot_of, HasPromised, HasAccepted, HasLearned, Says, AnswersAreFacts, CountedStays, CountedVoteStands, ToldIsChosen, ToldAreChosen, AppliedAreChosen, LearningReaches, LearnIsAnswered, PromiseIsGiven, VoteIsGiven, NodeGivesItsVote}
 use Rattle.arc_voting.specs.Turn.{Turn, IsTurn, answers_only, appends, vote_turn, promise_turn, turn_of}
-use Rattle.arc_voting.proofs.Agreeing.{applied_is_chosen}
+use Rattle.arc_voting.proofs.Agreeing.{applied_is_chosen, sound_agree}
 use Rattle.arc_voting.proofs.Facts.{facts_of}
 use Rattle.arc_voting.proofs.Growing.{count_push}
 use Rattle.arc_voting.proofs.Promises.{promise_push}
@@ -92,6 +92,17 @@ known_below journal slot c known =
     let lt : slot < length (applied journal) = slice_get_within (applied journal) slot c known in
     omega (arith, lt, applied_length journal)
 
+learned_before : (journal : List Record) (slot : ℕ) (c : Command) → slot < closed_len journal → HasLearned journal journal slot c
+learned_before journal slot c lt = record { closed = lt; only = inl (lt, refl); same_promise = refl }
+
+learned_now : (journal : List Record) (slot : ℕ) (c : Command) → slot ≡ closed_len journal →
+    HasLearned journal (journal ++ Closed slot c ∷ []) slot c
+learned_now journal slot c here = record {
+  closed = omega (arith, here, closed_more journal slot c);
+  only = inr (here, refl);
+  same_promise = promise_push journal (Closed slot c);
+}
+
 pub answers_are_facts : AnswersAreFacts
 answers_are_facts journal (Status slot) turn (stands, iff, is) =
     says_over journal (Status slot) turn (turn_of stands journal (Status slot)) is (refl, refl, refl, refl)
@@ -131,13 +142,12 @@ answers_are_facts journal (Learn slot c) turn (stands, iff, is) =
     elim (end_rows journal slot (λ d. answers_only (Learned (closed_len journal))) closing) [
       | inl (d, known, e) ↦
           says_over journal (Learn slot c) turn (answers_only (Learned (closed_len journal))) (is ∙ e)
-          (refl, known_below journal slot d known, refl)
+          (refl, (c, refl, learned_before journal slot c (known_below journal slot d known)))
       | inr (inl (past, e)) ↦
           says_over journal (Learn slot c) turn (answers_only (Behind (closed_len journal))) (is ∙ e) (refl, refl, past)
       | inr (inr (here, e)) ↦
-          (let less : slot < closed_len journal + 1 = omega (arith, here) in
           says_over journal (Learn slot c) turn closing (is ∙ e)
-          (sym (closed_more journal slot c), less, promise_push journal (Closed slot c)))
+          (sym (closed_more journal slot c), (c, refl, learned_now journal slot c here))
     ]
 
 pub counted_stays : CountedStays
@@ -157,6 +167,16 @@ counted_vote_stands journal slot ballot its_ballot c counted =
 
 pub applied_are_chosen : AppliedAreChosen
 applied_are_chosen js node slot c sound lt at = applied_is_chosen js (facts_of js sound) node slot c lt at
+
+pub voted_by_three_is_chosen : VotedByThreeIsChosen
+voted_by_three_is_chosen js slot ballot c three = (ballot, three)
+
+pub chosen_are_applied : ChosenAreApplied
+chosen_are_applied js node slot c sound lt low chosen =
+    let l : length (applied (js node)) ≡ closed_len (js node) = applied_length (js node) in
+    let x : Command = get_or (applied (js node)) slot c in
+    let at : slice_get (applied (js node)) slot ≡ Some x = slice_get-get_or (applied (js node)) slot c (omega arith) in
+    at ∙ ap Some (sound_agree js sound slot x c (applied_are_chosen js node slot x sound lt at) chosen)
 
 told_case : (js : Journals) (slot : ℕ) (known found : Option Command) → known ≡ found →
     ((c : Command) → found ≡ Some c → IsChosen js slot c) → IfSome known (λ c. IsChosen js slot c)

@@ -8,9 +8,9 @@ use Rattle.arc_data.specs.declared.message.Message.TheVariants.{Status, Prepare,
 use Rattle.arc_data.specs.declared.message.Answer.{Answer}
 use Rattle.arc_data.specs.declared.message.Answer.TheVariants.{At, Known, Behind, Refused, Promise, Accepted, Learned}
 use Rattle.arc_data.specs.declared.record.Record.{Record}
-use Rattle.arc_data.specs.declared.record.Record.TheVariants.{Promised, Voted}
+use Rattle.arc_data.specs.declared.record.Record.TheVariants.{Promised, Voted, Closed}
 use Rattle.arc_voting.specs.Journals.{Journals}
-use Rattle.arc_voting.specs.Chosen.{HoldsVote, IsChosen}
+use Rattle.arc_voting.specs.Chosen.{HoldsVote, IsVotedByThree, IsChosen}
 use Rattle.arc_voting.specs.Handled.{appended, Handles}
 use Rattle.arc_voting.specs.Lists.{applied}
 use Rattle.arc_voting.specs.Proposal.{IsCounted}
@@ -52,6 +52,14 @@ pub record HasAccepted (journal after : List Record) (slot ballot : ℕ) (c : Co
   pub same_promise : promise after ≡ promise journal
   pub still_open : closed_len after ≡ slot
 
+-- A node that kept the one journal learned, and keeps the other one: the slot was closed already, and nothing changed; or
+-- it was the open one, and is closed with the command.
+pub record HasLearned (journal after : List Record) (slot : ℕ) (c : Command) : Type 0 where
+  pub closed : slot < closed_len after
+  pub only : ((slot < closed_len journal) × (after ≡ journal))
+      ⊎ ((slot ≡ closed_len journal) × (after ≡ journal ++ Closed slot c ∷ []))
+  pub same_promise : promise after ≡ promise journal
+
 -- What an answer to a message says of the journal that was kept, and of the one that is kept after it.
 abbrev pub Says : List Record → Message → List Record → Answer → Type 0
 Says journal message after (At n ballot known) =
@@ -67,7 +75,8 @@ Says journal message after (Promise slot ballot vote) =
 Says journal message after (Accepted slot ballot) =
     (c : Command) × (message ≡ Accept slot ballot c) × HasAccepted journal after slot ballot c
 Says journal message after (Learned n) =
-    (n ≡ closed_len after) × (slot_of message < n) × (promise after ≡ promise journal)
+    (n ≡ closed_len after)
+    × ((c : Command) × (message ≡ Learn (slot_of message) c) × HasLearned journal after (slot_of message) c)
 
 -- Each answer of the table says so.
 abbrev pub AnswersAreFacts : Type 0
@@ -83,6 +92,10 @@ CountedStays = (journal more : List Record) (slot ballot : ℕ) (vote : Option (
 abbrev pub CountedVoteStands : Type 0
 CountedVoteStands = (journal : List Record) (slot ballot its_ballot : ℕ) (c : Command) →
     IsCounted journal slot ballot (Some (its_ballot, c)) → HoldsVote journal slot its_ballot c
+
+-- A command is chosen where three of the five nodes hold its vote in one ballot.
+abbrev pub VotedByThreeIsChosen : Type 0
+VotedByThreeIsChosen = (js : Journals) (slot ballot : ℕ) (c : Command) → IsVotedByThree js slot ballot c → IsChosen js slot c
 
 -- A command that is told as closed at a slot is chosen there.
 abbrev pub ToldIsChosen : Journals → Message → Answer → Type 0
@@ -103,6 +116,11 @@ ToldAreChosen = (js : Journals) (node : ℕ) (message : Message) (turn : Turn) �
 abbrev pub AppliedAreChosen : Type 0
 AppliedAreChosen = (js : Journals) (node slot : ℕ) (c : Command) → IsSound js → node < 5 →
     slice_get (applied (js node)) slot ≡ Some c → IsChosen js slot c
+
+-- What is chosen at a slot that a node of sound journals closed is what it applied there.
+abbrev pub ChosenAreApplied : Type 0
+ChosenAreApplied = (js : Journals) (node slot : ℕ) (c : Command) → IsSound js → node < 5 → slot < closed_len (js node) →
+    IsChosen js slot c → slice_get (applied (js node)) slot ≡ Some c
 
 -- The messages that tell these commands, at this slot and the ones behind it.
 abbrev pub learns : ℕ → List Command → List Message

@@ -5,7 +5,7 @@ ghost use Rattle.arc_voting.specs.Laws.{ChosenAreEqual, HaveOneHistory, IdsDiffe
 ghost use Rattle.arc_voting.specs.Growth.{SameAreSound, VotesStay, ChosenStay};
 ghost use Rattle.arc_voting.specs.Staying.{HandledGrow, StaysWhileTheyGrow, StayingIsLawful, NoCommandBegins};
 ghost use Rattle.arc_voting.specs.Order.{LawfulMailKeepsOrder, HandlingKeepsStarts, DrawnIdsAreNew, VotedAreInOrder, FirstStartsAreSound, NextStartKeepsSound};
-ghost use Rattle.arc_voting.specs.Replies.{AnswersAreFacts, CountedStays, CountedVoteStands, ToldAreChosen, AppliedAreChosen, LearningReaches, LearnIsAnswered, PromiseIsGiven, VoteIsGiven, NodeGivesItsVote};
+ghost use Rattle.arc_voting.specs.Replies.{AnswersAreFacts, CountedStays, CountedVoteStands, VotedByThreeIsChosen, ToldAreChosen, AppliedAreChosen, ChosenAreApplied, LearningReaches, LearnIsAnswered, PromiseIsGiven, VoteIsGiven, NodeGivesItsVote};
 ghost use Rattle.arc_voting.specs.Bounds.{PromisesAreBounded, LeastBallotIsLawful, BallotsFit};
 ghost use Rattle.arc_voting.specs.Owning.{UnappliedMayBegin, DrawnMayBegin, ProposalMayBegin};
 ghost use Rattle.arc_voting.specs.Handled.{LawfulMailKeepsSound, HistoriesOnlyGrow, FrontsAreHandled};
@@ -78,13 +78,15 @@ pub fn starts_keep_sound()
 {}
 
 /// What each answer says of the journal of the node that gave it, before and after; that a counted promise is counted still
-/// when more is appended; and that what nodes of sound journals tell as closed is chosen.
+/// when more is appended; that three votes choose; and that what nodes of sound journals tell as closed is what was chosen.
 pub fn answers_are_facts()
     ensures says { AnswersAreFacts }
     ensures counted { CountedStays }
     ensures stands { CountedVoteStands }
+    ensures three { VotedByThreeIsChosen }
     ensures told { ToldAreChosen }
     ensures applied { AppliedAreChosen }
+    ensures chosen { ChosenAreApplied }
 {}
 
 /// A node that is told the commands that it lacks reaches the slot behind them; there it gives the promise that is asked for
