@@ -1,15 +1,16 @@
 -- Journals that only grew: what stood stands, what was chosen is chosen, and what stayed lawful does.
-use Rattle.std.proofs.Common.{◌≡◌, ℕ, ◌%◌, ◌+◌, ◌<◌, ◌≤◌, cond, List, ◌++◌, take, inl, subst, sym, arith}
+use Rattle.std.proofs.Common.{◌≡◌, ℕ, ◌%◌, ◌+◌, ◌<◌, ◌≤◌, cond, List, ◌++◌, take, inl, subst, sym, ◌∙◌, ap, arith}
 use Rattle.std.specs.List.{Contains}
-use Rattle.std.proofs.lemmas.List.Elements.{Contains-append_left}
+use Rattle.std.proofs.lemmas.List.Elements.{Contains-append_left, filter_map-append}
 use Rattle.std.proofs.lemmas.List.Sums.{sum_by-append}
 use Rattle.arc_data.specs.declared.message.Message.TheVariants.{Status, Prepare, Accept, Learn}
 use Rattle.arc_data.specs.declared.record.Record.{Record}
 use Rattle.arc_data.specs.declared.record.Record.TheVariants.{Voted}
 use Rattle.arc_voting.specs.Journals.{Journals, promises_of, promised_count, is_promised}
 use Rattle.arc_voting.specs.Chosen.{HoldsVote}
-use Rattle.arc_voting.specs.Growth.{Grows, SameAreSound, VotesStay, ChosenStay}
+use Rattle.arc_voting.specs.Growth.{Grows, SameAreSound, VotesStay, ChosenStay, AppliedOnlyGrow}
 use Rattle.arc_voting.specs.Handled.{Handles}
+use Rattle.arc_voting.specs.Lists.{applied, closed_by}
 use Rattle.arc_voting.specs.Staying.{HandledGrow, StaysWhileTheyGrow, StayingIsLawful}
 use Rattle.arc_voting.proofs.Facts.{facts_of, sound_from}
 use Rattle.arc_voting.proofs.Mailed.{only_appended}
@@ -35,6 +36,11 @@ chosen_stay js ks slot c grows (ballot, three) = (
   by_three_map (λ n. HoldsVote (js n) slot ballot c) (λ n. HoldsVote (ks n) slot ballot c)
       (λ n lt there. grown_holds js ks n (Voted slot ballot c) grows lt there) three,
 )
+
+pub applied_only_grow : AppliedOnlyGrow
+applied_only_grow js ks node grows lt =
+    let more : (rest : List Record) × (ks node ≡ js node ++ rest) = grows node lt in
+    (applied more.0, sym (ap applied more.1 ∙ filter_map-append closed_by (js node) more.0))
 
 -- no promise is lost
 grown_count : (js ks : Journals) (node : ℕ) → Grows js ks → node < 5 → promised_count (js node) ≤ promised_count (ks node)

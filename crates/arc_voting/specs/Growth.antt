@@ -4,6 +4,8 @@ use Rattle.arc_data.specs.declared.command.Command.{Command}
 use Rattle.arc_data.specs.declared.record.Record.{Record}
 use Rattle.arc_voting.specs.Journals.{Journals}
 use Rattle.arc_voting.specs.Chosen.{HoldsVote, IsChosen}
+use Rattle.arc_voting.specs.Laws.{Begins}
+use Rattle.arc_voting.specs.Lists.{applied}
 use Rattle.arc_voting.specs.Sound.{IsSound}
 
 -- The five journals are the same.
@@ -30,3 +32,7 @@ VotesStay = (js ks : Journals) (node slot ballot : ℕ) (c : Command) → Grows 
 -- What was chosen is chosen in all later journals.
 abbrev pub ChosenStay : Type 0
 ChosenStay = (js ks : Journals) (slot : ℕ) (c : Command) → Grows js ks → IsChosen js slot c → IsChosen ks slot c
+
+-- What a node applied begins what it has applied in all later journals.
+abbrev pub AppliedOnlyGrow : Type 0
+AppliedOnlyGrow = (js ks : Journals) (node : ℕ) → Grows js ks → node < 5 → Begins (applied (js node)) (applied (ks node))

@@ -4,7 +4,7 @@ use Rattle.arc_ids.specs.declared.command_id.CommandId.{CommandId}
 use Rattle.arc_data.specs.declared.command.Command.{Command}
 use Rattle.arc_data.specs.declared.record.Record.TheVariants.{Opened}
 use Rattle.arc_voting.specs.Journals.{Journals, with_entry, opened_count, last_inc, since_opened}
-use Rattle.arc_voting.specs.Growth.{HasVote}
+use Rattle.arc_voting.specs.Growth.{Grows, HasVote}
 use Rattle.arc_voting.specs.Handled.{IsHandled}
 use Rattle.arc_voting.specs.Ids.{IdsAreInOrder, IsDrawn, HasNoVoteOf, HasNoChosenOf}
 use Rattle.arc_voting.specs.Lawful.{Mail, IsLawful, IsDrawnInOrder}
@@ -51,3 +51,8 @@ abbrev pub NextStartKeepsSound : Type 0
 NextStartKeepsSound = (js : Journals) (node : ℕ) → IsSound js → node < 5 →
     IsSound (with_start js node) × IdsAreInOrder (with_start js node node) node
     × ((other : ℕ) → other < 5 → other ≢ node → IdsAreInOrder (js other) other → IdsAreInOrder (with_start js node other) other)
+
+-- By it the journals only grow, and no command gets a vote that had none.
+abbrev pub NextStartOnlyGrows : Type 0
+NextStartOnlyGrows = (js : Journals) (node : ℕ) →
+    Grows js (with_start js node) × ((c : Command) → HasVote (with_start js node) c → HasVote js c)

@@ -2,9 +2,9 @@
 ghost use Rattle.arc_voting.specs.Journals.{Journals};
 ghost use Rattle.arc_voting.specs.Sound.{IsSound};
 ghost use Rattle.arc_voting.specs.Laws.{ChosenAreEqual, HaveOneHistory, IdsDiffer, LongestIsOne, EachBeginsTheLongest, LongestOnlyGrows};
-ghost use Rattle.arc_voting.specs.Growth.{SameAreSound, VotesStay, ChosenStay};
+ghost use Rattle.arc_voting.specs.Growth.{SameAreSound, VotesStay, ChosenStay, AppliedOnlyGrow};
 ghost use Rattle.arc_voting.specs.Staying.{HandledGrow, StaysWhileTheyGrow, StayingIsLawful, NoCommandBegins};
-ghost use Rattle.arc_voting.specs.Order.{LawfulMailKeepsOrder, HandlingKeepsStarts, DrawnIdsAreNew, VotedAreInOrder, FirstStartsAreSound, NextStartKeepsSound};
+ghost use Rattle.arc_voting.specs.Order.{LawfulMailKeepsOrder, HandlingKeepsStarts, DrawnIdsAreNew, VotedAreInOrder, FirstStartsAreSound, NextStartKeepsSound, NextStartOnlyGrows};
 ghost use Rattle.arc_voting.specs.Replies.{AnswersAreFacts, CountedStays, CountedVoteStands, VotedByThreeIsChosen, ToldAreChosen, AppliedAreChosen, ChosenAreApplied, LearningReaches, LearnIsAnswered, PromiseIsGiven, VoteIsGiven, NodeGivesItsVote};
 ghost use Rattle.arc_voting.specs.Bounds.{PromisesAreBounded, LeastBallotIsLawful, BallotsFit};
 ghost use Rattle.arc_voting.specs.Owning.{UnappliedMayBegin, DrawnMayBegin, ProposalMayBegin};
@@ -46,12 +46,13 @@ pub fn proposals_keep_sound()
 {}
 
 /// Journals that are the same at the five nodes are sound together. Nodes that handle mail only append, and in journals
-/// that grew each vote stands still, and what was chosen is chosen.
+/// that grew each vote stands still, what was chosen is chosen, and what was applied begins what is.
 pub fn journals_only_grow()
     ensures same { SameAreSound }
     ensures handled { HandledGrow }
     ensures votes { VotesStay }
     ensures chosen { ChosenStay }
+    ensures applied { AppliedOnlyGrow }
 {}
 
 /// A message that stays lawful is lawful to any node, beside any other mail, and for all later journals. And whatever part
@@ -71,10 +72,12 @@ pub fn ids_stay_in_order()
     ensures voted { VotedAreInOrder }
 {}
 
-/// Five journals of a first start each are sound, with ids in order; and the next start of any node keeps them so.
+/// Five journals of a first start each are sound, with ids in order; and the next start of any node keeps them so, and
+/// gives no command a vote.
 pub fn starts_keep_sound()
     ensures first { FirstStartsAreSound }
     ensures next { NextStartKeepsSound }
+    ensures grows { NextStartOnlyGrows }
 {}
 
 /// What each answer says of the journal of the node that gave it, before and after; that a counted promise is counted still

@@ -1,4 +1,4 @@
-use Rattle.arc_voting.proofs.Grown.{same_are_sound, handled_grow, votes_stay, chosen_stay}
+use Rattle.arc_voting.proofs.Grown.{same_are_sound, handled_grow, votes_stay, chosen_stay, applied_only_grow}
 use Rattle.arc_voting.proofs.laws.journals_only_grow.Goals as goal
 
 pub returns-clause-same : goal.returns-clause-same
@@ -12,3 +12,6 @@ returns-clause-votes c = votes_stay
 
 pub returns-clause-chosen : goal.returns-clause-chosen
 returns-clause-chosen c = chosen_stay
+
+pub returns-clause-applied : goal.returns-clause-applied
+returns-clause-applied c = applied_only_grow
