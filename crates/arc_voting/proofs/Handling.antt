@@ -17,7 +17,7 @@ use Rattle.arc_voting.specs.Chosen.{HoldsVote}
 use Rattle.arc_voting.specs.Handled.{appended, Handles, IsHandled}
 use Rattle.arc_voting.specs.Lawful.{Mail}
 use Rattle.arc_voting.specs.Order.{HandlingKeepsStarts}
-use Rattle.arc_voting.specs.Staying.{NoCommandBegins}
+use Rattle.arc_voting.specs.Staying.{NewVotesWereAskedFor, NoCommandBegins}
 use Rattle.arc_voting.specs.Turn.{Turn, IsTurn, answers_only, appends, vote_turn, promise_turn, turn_of}
 use Rattle.arc_voting.proofs.Contained.{contains_head, contains_tail, contains_take}
 use Rattle.arc_voting.proofs.Mailed.{some_is, no_entry}
@@ -215,6 +215,14 @@ moved_there js after mail node handled lt =
         | inr (there, high, less) ↦ inr (contains_take own.0 (mail node) (Accept slot ballot c) there, high, less)
       ];
     }
+
+pub new_votes_were_asked_for : NewVotesWereAskedFor
+new_votes_were_asked_for js after mail handled c (node, slot, ballot, lt, held) =
+    let here : HasMovedBy (mail node) (js node) (after node) = moved_there js after mail node handled lt in
+    elim (here.votes slot ballot c held) [
+      | inl old ↦ inl (node, slot, ballot, lt, old)
+      | inr (there, high, less) ↦ inr (node, slot, ballot, lt, there)
+    ]
 
 pub no_command_begins : NoCommandBegins
 no_command_begins js after mail stays handled c (node, slot, ballot, lt, held) =

@@ -11,7 +11,7 @@ use Rattle.arc_voting.specs.Chosen.{HoldsVote}
 use Rattle.arc_voting.specs.Formed.{Fits}
 use Rattle.arc_voting.specs.Ids.{IdsAreInOrder, IsNotChosenBelow, IsAloneWithItsId, HasNoVoteOf, HasNoChosenOf}
 use Rattle.arc_voting.specs.Lists.{applied}
-use Rattle.arc_voting.specs.Owning.{UnappliedMayBegin, DrawnMayBegin, ProposalMayBegin}
+use Rattle.arc_voting.specs.Owning.{VotedIsAlone, AloneStays, UnappliedMayBegin, DrawnMayBegin, ProposalMayBegin}
 use Rattle.arc_voting.specs.Lawful.{IsDrawnInOrder}
 use Rattle.arc_voting.specs.Proposal.{Promises, IsProposal, MayPropose}
 use Rattle.arc_voting.specs.Sound.{IsSound}
@@ -77,6 +77,17 @@ not_chosen_below js node c facts lt alone unapplied lower d less (ballot, three)
     let voter : (n : ℕ) × (n < 5) × HoldsVote (js n) lower ballot d = some_of_three (λ n. HoldsVote (js n) lower ballot d) three in
     let own : d ≡ c = alone voter.0 lower ballot d voter.1 voter.2 same in
     unapplied (command_at (applied (js node)) lower c (at ∙ ap Some (is ∙ own)))
+
+pub voted_is_alone : VotedIsAlone
+voted_is_alone js c sound (n, slot, ballot, lt, held) node s b d small there same =
+    let facts : Facts js = facts_of js sound in facts.one_id node n s b slot ballot d c small lt there held same
+
+pub alone_stays : AloneStays
+alone_stays js after c old alone node s b d lt held same =
+    elim (old d (node, s, b, lt, held)) [
+      | inl (n, slot, ballot, small, there) ↦ alone n slot ballot d small there same
+      | inr is ↦ is
+    ]
 
 pub unapplied_may_begin : UnappliedMayBegin
 unapplied_may_begin js node c sound lt home inc alone unapplied =

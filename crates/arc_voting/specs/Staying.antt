@@ -1,7 +1,8 @@
 -- What mail that stays lawful keeps.
-use Rattle.std.specs.Prelude.{ℕ}
+use Rattle.std.specs.Prelude.{ℕ, ◌<◌, ◌⊎◌, Contains}
 use Rattle.arc_data.specs.declared.command.Command.{Command}
 use Rattle.arc_data.specs.declared.message.Message.{Message}
+use Rattle.arc_data.specs.declared.message.Message.TheVariants.{Accept}
 use Rattle.arc_voting.specs.Growth.{Grows, HasVote}
 use Rattle.arc_voting.specs.Handled.{IsHandled}
 use Rattle.arc_voting.specs.Journals.{Journals}
@@ -18,6 +19,15 @@ StaysWhileTheyGrow = (js ks : Journals) (message : Message) → Grows js ks → 
 -- It is lawful to any node, beside any other mail.
 abbrev pub StayingIsLawful : Type 0
 StayingIsLawful = (js : Journals) (mail : Mail) (node : ℕ) (message : Message) → StaysLawful js message → IsLawfulTo js mail node message
+
+-- Some message to one of the five nodes asks for a vote for the command.
+abbrev pub IsAskedFor : Mail → Command → Type 0
+IsAskedFor mail c = (node slot ballot : ℕ) × (node < 5) × Contains (mail node) (Accept slot ballot c)
+
+-- Whatever mail is handled, a command that has a vote then had one before, or a vote for it was asked for.
+abbrev pub NewVotesWereAskedFor : Type 0
+NewVotesWereAskedFor = (js after : Journals) (mail : Mail) → IsHandled js mail after →
+    (c : Command) → HasVote after c → HasVote js c ⊎ IsAskedFor mail c
 
 -- Whatever part of mail that stays lawful each node has handled, a command that has a vote then had one before: handling
 -- gives no vote to a command that has none.

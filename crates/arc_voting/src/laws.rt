@@ -3,11 +3,11 @@ ghost use Rattle.arc_voting.specs.Journals.{Journals};
 ghost use Rattle.arc_voting.specs.Sound.{IsSound};
 ghost use Rattle.arc_voting.specs.Laws.{ChosenAreEqual, HaveOneHistory, IdsDiffer, LongestIsOne, EachBeginsTheLongest, LongestOnlyGrows};
 ghost use Rattle.arc_voting.specs.Growth.{SameAreSound, VotesStay, ChosenStay, AppliedOnlyGrow};
-ghost use Rattle.arc_voting.specs.Staying.{HandledGrow, StaysWhileTheyGrow, StayingIsLawful, NoCommandBegins};
+ghost use Rattle.arc_voting.specs.Staying.{HandledGrow, StaysWhileTheyGrow, StayingIsLawful, NewVotesWereAskedFor, NoCommandBegins};
 ghost use Rattle.arc_voting.specs.Order.{LawfulMailKeepsOrder, HandlingKeepsStarts, DrawnIdsAreNew, VotedAreInOrder, FirstStartsAreSound, NextStartKeepsSound, NextStartOnlyGrows};
 ghost use Rattle.arc_voting.specs.Replies.{AnswersAreFacts, CountedStays, CountedVoteStands, VotedByThreeIsChosen, ToldAreChosen, AppliedAreChosen, ChosenAreApplied, LearningReaches, LearnIsAnswered, PromiseIsGiven, VoteIsGiven, NodeGivesItsVote};
 ghost use Rattle.arc_voting.specs.Bounds.{PromisesAreBounded, LeastBallotIsLawful, BallotsFit};
-ghost use Rattle.arc_voting.specs.Owning.{UnappliedMayBegin, DrawnMayBegin, ProposalMayBegin};
+ghost use Rattle.arc_voting.specs.Owning.{VotedIsAlone, AloneStays, UnappliedMayBegin, DrawnMayBegin, ProposalMayBegin};
 ghost use Rattle.arc_voting.specs.Handled.{LawfulMailKeepsSound, HistoriesOnlyGrow, FrontsAreHandled};
 ghost use Rattle.arc_voting.specs.Proposal.{ProposalKeepsSound, StandingVoteIsTheProposal};
 
@@ -55,11 +55,12 @@ pub fn journals_only_grow()
     ensures applied { AppliedOnlyGrow }
 {}
 
-/// A message that stays lawful is lawful to any node, beside any other mail, and for all later journals. And whatever part
-/// of such mail is handled, no command gets its first vote by it.
+/// A message that stays lawful is lawful to any node, beside any other mail, and for all later journals. A command gets its
+/// first vote only where that is asked for, and never by mail that stays lawful, whatever part of it is handled.
 pub fn mail_stays_lawful()
     ensures later { StaysWhileTheyGrow }
     ensures lawful { StayingIsLawful }
+    ensures asked { NewVotesWereAskedFor }
     ensures begun { NoCommandBegins }
 {}
 
@@ -111,8 +112,11 @@ pub fn ballots_are_bounded()
 {}
 
 /// A command of the present start of a node of sound journals may begin at its open slot where no other command was voted
-/// for under its id and the node hasn't applied it, or where the node draws its id now.
+/// for under its id and the node hasn't applied it, or where the node draws its id now. A command is alone with its id
+/// where it has a vote, and stays so while no other command gets its first vote.
 pub fn commands_may_begin()
+    ensures voted { VotedIsAlone }
+    ensures alone { AloneStays }
     ensures unapplied { UnappliedMayBegin }
     ensures drawn { DrawnMayBegin }
     ensures proposal { ProposalMayBegin }
