@@ -1,24 +1,39 @@
 -- Journals that only grew: what stood stands, what was chosen is chosen, and what stayed lawful does.
-use Rattle.std.proofs.Common.{◌≡◌, ℕ, ◌%◌, ◌+◌, ◌<◌, ◌≤◌, cond, List, ◌++◌, take, inl, subst, sym, ◌∙◌, ap, arith}
+use Rattle.std.proofs.Common.{◌≡◌, ℕ, ◌%◌, ◌+◌, ◌<◌, ◌≤◌, cond, Option, Some, None, List, [], ◌∷◌, ◌++◌, take, inl, inr, subst, sym, ◌∙◌, ap, arith}
 use Rattle.std.specs.List.{Contains}
+use Rattle.std.proofs.lemmas.Bool.{cases_eq}
+use Rattle.std.proofs.lemmas.List.{append-nil, append_assoc}
 use Rattle.std.proofs.lemmas.List.Elements.{Contains-append_left, filter_map-append}
 use Rattle.std.proofs.lemmas.List.Sums.{sum_by-append}
+use Rattle.arc_data.specs.declared.message.Message.{Message}
 use Rattle.arc_data.specs.declared.message.Message.TheVariants.{Status, Prepare, Accept, Learn}
 use Rattle.arc_data.specs.declared.record.Record.{Record}
 use Rattle.arc_data.specs.declared.record.Record.TheVariants.{Voted}
 use Rattle.arc_voting.specs.Journals.{Journals, promises_of, promised_count, is_promised}
 use Rattle.arc_voting.specs.Chosen.{HoldsVote}
-use Rattle.arc_voting.specs.Growth.{Grows, SameAreSound, VotesStay, ChosenStay, AppliedOnlyGrow}
-use Rattle.arc_voting.specs.Handled.{Handles}
+use Rattle.arc_voting.specs.Growth.{Grows, SameAreSound, VotesStay, ChosenStay, AppliedOnlyGrow, AreSame}
+use Rattle.arc_voting.specs.Handled.{appended, Handles}
 use Rattle.arc_voting.specs.Lists.{applied, closed_by}
 use Rattle.arc_voting.specs.Staying.{HandledGrow, StaysWhileTheyGrow, StayingIsLawful}
 use Rattle.arc_voting.proofs.Facts.{facts_of, sound_from}
-use Rattle.arc_voting.proofs.Mailed.{only_appended}
+use Rattle.arc_voting.proofs.Growing.{IsStep}
 use Rattle.arc_voting.proofs.Same.{facts_over}
 use Rattle.arc_voting.proofs.Three.{by_three_map}
 
 pub same_are_sound : SameAreSound
 same_are_sound js ks same sound = sound_from ks (facts_over js ks same (facts_of js sound))
+
+-- journals of which one has an entry more grew, and so did journals that are the same
+pub step_grown : (js ks : Journals) (node : ℕ) (entry : Record) → IsStep js ks node entry → Grows js ks
+step_grown js ks node entry step n lt =
+    let P : ℕ → Type 0 = λ m. (more : List Record) × (ks m ≡ js m ++ more) in
+    elim (cases_eq n node) [
+      | inl same ↦ subst P (sym same) (entry ∷ [], step.here)
+      | inr other ↦ ([], step.others n lt other ∙ sym (append-nil (js n)))
+    ]
+
+pub same_grown : (js ks : Journals) → AreSame js ks → Grows js ks
+same_grown js ks same n lt = ([], same n lt ∙ sym (append-nil (js n)))
 
 -- what stood stands
 pub grown_holds : (js ks : Journals) (node : ℕ) (x : Record) → Grows js ks → node < 5 → Contains (js node) x → Contains (ks node) x
@@ -74,6 +89,23 @@ staying_is_lawful js mail node (Status slot) stays = tt
 staying_is_lawful js mail node (Prepare slot ballot) stays = stays
 staying_is_lawful js mail node (Accept slot ballot c) stays = inl stays
 staying_is_lawful js mail node (Learn slot c) stays = stays
+
+joined : (journal : List Record) (entry : Record) (more : List Record) → (journal ++ entry ∷ []) ++ more ≡ journal ++ entry ∷ more
+joined journal entry more = simp append_assoc
+
+more_appended : (journal after : List Record) (o : Option Record) (more : List Record) → after ≡ appended journal o ++ more →
+    (rest : List Record) × (after ≡ journal ++ rest)
+more_appended journal after None more is = (more, is)
+more_appended journal after (Some entry) more is = (entry ∷ more, is ∙ joined journal entry more)
+
+-- what is handled is only appended
+pub only_appended : (messages : List Message) (journal after : List Record) → Handles messages journal after →
+    (rest : List Record) × (after ≡ journal ++ rest)
+only_appended [] journal after is = ([], is ∙ sym (append-nil journal))
+only_appended (message ∷ later) journal after (turn, is, rest) =
+    let finally : (more : List Record) × (after ≡ appended journal turn.append ++ more) =
+    only_appended later (appended journal turn.append) after rest in
+    more_appended journal after turn.append finally.0 finally.1
 
 pub handled_grow : HandledGrow
 handled_grow js after mail handled node lt =

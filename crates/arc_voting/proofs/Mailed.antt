@@ -3,8 +3,6 @@ use Rattle.std.proofs.Common.{◌≡◌, ◌≢◌, ℕ, zero, suc, ◌%◌, ◌
 use Rattle.std.specs.Prelude.{⊤}
 use Rattle.std.specs.List.{Contains}
 use Rattle.std.proofs.lemmas.Bool.{cases_lt, cases_eq, cases_Bool, ltb-true, lt-ltb}
-use Rattle.std.proofs.lemmas.List.{append-nil, append_assoc}
-use Rattle.std.proofs.lemmas.List.Elements.{filter_map-append}
 use Rattle.arc_data.specs.Entries.{closed_len, promise}
 use Rattle.arc_data.specs.declared.command.Command.{Command}
 use Rattle.arc_data.specs.declared.message.Message.{Message}
@@ -16,16 +14,16 @@ use Rattle.arc_voting.specs.Journals.{Journals, promises_of, with_entry}
 use Rattle.arc_voting.specs.Chosen.{HoldsVote, IsChosen}
 use Rattle.arc_voting.specs.Formed.{IsBallot, IsOneCommand, IsPromise, IsVote}
 use Rattle.arc_voting.specs.Lawful.{Mail, IsOwnVote, IsLawfulTo, StaysLawful}
-use Rattle.arc_voting.specs.Growth.{AreSame}
-use Rattle.arc_voting.specs.Lists.{applied, closed_by}
+use Rattle.arc_voting.specs.Growth.{AreSame, Grows}
 use Rattle.arc_voting.specs.Handled.{appended, Handles, IsHandled, LawfulMailKeepsSound, HistoriesOnlyGrow}
 use Rattle.arc_voting.specs.Tracks.{IsWellFormedWhole}
 use Rattle.arc_voting.specs.Turn.{Turn, IsTurn, answers_only, appends, vote_turn, promise_turn, turn_of}
 use Rattle.arc_voting.proofs.Added.{AdmitsVote, Admits, added}
 use Rattle.arc_voting.proofs.Contained.{contains_head, contains_tail}
 use Rattle.arc_voting.proofs.Facts.{Facts, facts_of, sound_from}
-use Rattle.arc_voting.proofs.Growing.{IsStep, still, promises_grow, promises_more, chosen_still, starts_still}
-use Rattle.arc_voting.proofs.Same.{chosen_over, promises_over, facts_over, replaced, replaced_here, replaced_other, with_entry_step}
+use Rattle.arc_voting.proofs.Grown.{step_grown, same_grown, handled_grow, applied_only_grow, stays_while_they_grow}
+use Rattle.arc_voting.proofs.Growing.{IsStep, still, promises_grow, promises_more, starts_still}
+use Rattle.arc_voting.proofs.Same.{facts_over, replaced, replaced_here, replaced_other, with_entry_step}
 use Rattle.arc_voting.proofs.Three.{below_five}
 use Rattle.arc_voting.proofs.Turns.{at_end_appends, promise_appends, vote_appends}
 use Rattle.arc_voting.proofs.Uses.{one_command, vote_in_range, no_promise_above}
@@ -35,20 +33,8 @@ use Rattle.arc_voting.proofs.Walks.{on_votes_from}
 abbrev pub LastLonger : Journals → Journals → Type 0
 LastLonger js ks = (message : Message) → StaysLawful js message → StaysLawful ks message
 
-lasts_still : (js ks : Journals) (node : ℕ) (entry : Record) → IsStep js ks node entry → LastLonger js ks
-lasts_still js ks node entry step (Status slot) lasts = tt
-lasts_still js ks node entry step (Prepare slot ballot) lasts =
-    (lasts.0, omega (arith, lasts.1, promises_grow js ks node entry step))
-lasts_still js ks node entry step (Accept slot ballot c) lasts =
-    still js ks node entry (Voted slot ballot c) step (ballot % 5) (omega arith) lasts
-lasts_still js ks node entry step (Learn slot c) lasts = chosen_still js ks node entry step slot c lasts
-
-lasts_over : (js ks : Journals) → AreSame js ks → LastLonger js ks
-lasts_over js ks same (Status slot) lasts = tt
-lasts_over js ks same (Prepare slot ballot) lasts = (lasts.0, omega (arith, lasts.1, promises_over js ks same))
-lasts_over js ks same (Accept slot ballot c) lasts =
-    let P : List Record → Type 0 = λ xs. HoldsVote xs slot ballot c in subst P (sym (same (ballot % 5) (omega arith))) lasts
-lasts_over js ks same (Learn slot c) lasts = chosen_over js ks same slot c lasts
+lasts_longer : (js ks : Journals) → Grows js ks → LastLonger js ks
+lasts_longer js ks grows message stays = stays_while_they_grow js ks message grows stays
 
 -- a well-formed journal isn't empty
 pub not_empty : (promises : ℕ) (journal : List Record) → IsWellFormedWhole promises journal → journal ≢ []
@@ -220,11 +206,11 @@ handle_case : (js ks : Journals) (node : ℕ) (message : Message) (turn : Turn) 
     ((n : ℕ) → n < 5 → n ≢ node → ks n ≡ js n) → Facts ks × LastLonger js ks
 handle_case js ks node message turn None facts lt lasts is none here others =
     let same : AreSame js ks = all_same js ks node here others in
-    (facts_over js ks same facts, lasts_over js ks same)
+    (facts_over js ks same facts, lasts_longer js ks (same_grown js ks same))
 handle_case js ks node message turn (Some entry) facts lt lasts is some here others =
     let step : IsStep js ks node entry = record { here = here; others = others } in
     let may : Admits js ks node entry = admits js ks node message turn entry facts lt lasts is some step in
-    (added js ks node entry facts may, lasts_still js ks node entry step)
+    (added js ks node entry facts may, lasts_longer js ks (step_grown js ks node entry step))
 
 -- all of these messages last
 abbrev pub AllLast : Journals → List Message → Type 0
@@ -245,7 +231,7 @@ handles_all : (messages : List Message) (js ks : Journals) (node : ℕ) → node
     Handles messages (js node) (ks node) → ((n : ℕ) → n < 5 → n ≢ node → ks n ≡ js n) → Facts ks × LastLonger js ks
 handles_all [] js ks node lt facts lasts here others =
     let same : AreSame js ks = all_same js ks node here others in
-    (facts_over js ks same facts, lasts_over js ks same)
+    (facts_over js ks same facts, lasts_longer js ks (same_grown js ks same))
 handles_all (message ∷ later) js ks node lt facts lasts (turn, is, rest) others =
     let next : List Record = appended (js node) turn.append in
     let mid : Journals = replaced js node next in
@@ -283,7 +269,7 @@ chain : (js after : Journals) (mail : Mail) → Facts js → ((n : ℕ) → n < 
     (k : ℕ) → k ≤ 5 → Facts (mixed js after k) × LastLonger js (mixed js after k)
 chain js after mail facts lasts handled zero le =
     let same : AreSame js (mixed js after 0) = λ n lt. mixed_past js after 0 n (omega arith) in
-    (facts_over js (mixed js after 0) same facts, lasts_over js (mixed js after 0) same)
+    (facts_over js (mixed js after 0) same facts, lasts_longer js (mixed js after 0) (same_grown js (mixed js after 0) same))
 chain js after mail facts lasts handled (suc k) le =
     let lt : k < 5 = omega arith in
     let before : Facts (mixed js after k) × LastLonger js (mixed js after k) = chain js after mail facts lasts handled k (omega arith) in
@@ -416,25 +402,5 @@ mail_keeps_sound js after mail sound lawful handled =
       | inr (node, lt, (slot, ballot, c, own)) ↦ sound_from after (own_sound js after mail node slot ballot c facts lt own handled)
     ]
 
-joined : (journal : List Record) (entry : Record) (more : List Record) → (journal ++ entry ∷ []) ++ more ≡ journal ++ entry ∷ more
-joined journal entry more = simp append_assoc
-
-more_appended : (journal after : List Record) (o : Option Record) (more : List Record) → after ≡ appended journal o ++ more →
-    (rest : List Record) × (after ≡ journal ++ rest)
-more_appended journal after None more is = (more, is)
-more_appended journal after (Some entry) more is = (entry ∷ more, is ∙ joined journal entry more)
-
--- what is handled is only appended
-pub only_appended : (messages : List Message) (journal after : List Record) → Handles messages journal after →
-    (rest : List Record) × (after ≡ journal ++ rest)
-only_appended [] journal after is = ([], is ∙ sym (append-nil journal))
-only_appended (message ∷ later) journal after (turn, is, rest) =
-    let finally : (more : List Record) × (after ≡ appended journal turn.append ++ more) =
-    only_appended later (appended journal turn.append) after rest in
-    more_appended journal after turn.append finally.0 finally.1
-
 pub histories_grow : HistoriesOnlyGrow
-histories_grow js after mail node handled lt =
-    let own : (count : ℕ) × Handles (take count (mail node)) (js node) (after node) = handled node lt in
-    let more : (rest : List Record) × (after node ≡ js node ++ rest) = only_appended (take own.0 (mail node)) (js node) (after node) own.1 in
-    (applied more.0, sym (ap applied more.1 ∙ filter_map-append closed_by (js node) more.0))
+histories_grow js after mail node handled lt = applied_only_grow js after node (handled_grow js after mail handled) lt

@@ -1,8 +1,6 @@
 -- First starts, and the next start of a node.
-use Rattle.std.proofs.Common.{◌≡◌, ℕ, zero, suc, ◌+◌, ◌<◌, ◌≤◌, inl, inr, None, MatchOption, List, [], ◌∷◌, ◌++◌, take, subst, sym, ◌∙◌, arith, refl}
+use Rattle.std.proofs.Common.{◌≡◌, ℕ, zero, suc, ◌+◌, ◌<◌, ◌≤◌, inl, inr, None, MatchOption, List, [], ◌∷◌, ◌++◌, take, subst, sym, arith, refl}
 use Rattle.std.specs.List.{Contains, slice_get}
-use Rattle.std.proofs.lemmas.Bool.{cases_eq}
-use Rattle.std.proofs.lemmas.List.{append-nil}
 use Rattle.std.proofs.lemmas.List.Elements.{Contains-push_cases}
 use Rattle.std.proofs.lemmas.Option.{slice_get_past}
 use Rattle.arc_data.specs.declared.command.Command.{Command}
@@ -17,6 +15,7 @@ use Rattle.arc_voting.specs.Tracks.{IsWellFormedWhole}
 use Rattle.arc_voting.proofs.Added.{Admits, added}
 use Rattle.arc_voting.proofs.Contained.{contains_cons}
 use Rattle.arc_voting.proofs.Facts.{Facts, facts_of, sound_from}
+use Rattle.arc_voting.proofs.Grown.{step_grown}
 use Rattle.arc_voting.proofs.Growing.{IsStep, came}
 use Rattle.arc_voting.proofs.Handling.{inc_push}
 use Rattle.arc_voting.proofs.Ordering.{IsStartedVote, started_vote, start_counted}
@@ -112,21 +111,11 @@ next_start_keeps_sound js node sound lt =
           (let Q : List Record → Type 0 = λ xs. IdsAreInOrder xs other in subst Q (sym (step.others other small apart)) order),
     )
 
--- the journal of a node after one entry more somewhere
-grown_step : (js ks : Journals) (node : ℕ) (entry : Record) → IsStep js ks node entry → (n : ℕ) → n < 5 →
-    (more : List Record) × (ks n ≡ js n ++ more)
-grown_step js ks node entry step n lt =
-    let P : ℕ → Type 0 = λ m. (more : List Record) × (ks m ≡ js m ++ more) in
-    elim (cases_eq n node) [
-      | inl same ↦ subst P (sym same) (entry ∷ [], step.here)
-      | inr other ↦ ([], step.others n lt other ∙ sym (append-nil (js n)))
-    ]
-
 pub next_start_only_grows : NextStartOnlyGrows
 next_start_only_grows js node =
     let next : Record = Opened (opened_count (js node) + 1) in
     let step : IsStep js (with_start js node) node next = with_entry_step js node (Opened (opened_count (js node) + 1)) in (
-      grown_step js (with_start js node) node next step,
+      step_grown js (with_start js node) node next step,
       λ c (n, slot, ballot, lt, held).
           elim (came js (with_start js node) node next (Voted slot ballot c) step n lt held) [
             | inl old ↦ (n, slot, ballot, lt, old)
