@@ -105,7 +105,7 @@ learned_now journal slot c here = record {
 
 pub answers_are_facts : AnswersAreFacts
 answers_are_facts journal (Status slot) turn (stands, iff, is) =
-    says_over journal (Status slot) turn (turn_of stands journal (Status slot)) is (refl, refl, refl, refl)
+    says_over journal (Status slot) turn (turn_of stands journal (Status slot)) is (refl, refl, refl, refl, refl)
 answers_are_facts journal (Prepare slot ballot) turn (stands, iff, is) =
     elim (end_rows journal slot (λ c. answers_only (Known slot c)) (promise_turn journal slot ballot)) [
       | inl (c, known, e) ↦ says_over journal (Prepare slot ballot) turn (answers_only (Known slot c)) (is ∙ e) (refl, refl, known)
@@ -127,8 +127,7 @@ answers_are_facts journal (Accept slot ballot c) turn (stands, iff, is) =
           says_over journal (Accept slot ballot c) turn (answers_only (Behind (closed_len journal))) (is ∙ e) (refl, refl, past)
       | inr (inr (here, e)) ↦ elim (vote_rows stands journal slot ballot c) [
         | inl (low, f) ↦
-            (let le : ballot ≤ promise journal = omega (arith, low) in
-            says_over journal (Accept slot ballot c) turn (answers_only (Refused (promise journal))) (is ∙ e ∙ f) (refl, here, refl, le))
+            says_over journal (Accept slot ballot c) turn (answers_only (Refused (promise journal))) (is ∙ e ∙ f) (refl, here, refl, low)
         | inr (inl (high, there, f)) ↦
             says_over journal (Accept slot ballot c) turn (answers_only (Accepted slot ballot)) (is ∙ e ∙ f)
             (c, refl, stood journal slot ballot c here high (iff.0 there))
@@ -187,7 +186,7 @@ told_by : (js : Journals) (node : ℕ) (message : Message) (after : List Record)
     ((slot : ℕ) (c : Command) → slice_get (applied (js node)) slot ≡ Some c → IsChosen js slot c) →
     Says (js node) message after reply → ToldIsChosen js message reply
 told_by js node message after (At n ballot known) chosen says =
-    told_case js (slot_of message) known (slice_get (applied (js node)) (slot_of message)) says.3 (chosen (slot_of message))
+    told_case js (slot_of message) known (slice_get (applied (js node)) (slot_of message)) says.4 (chosen (slot_of message))
 told_by js node message after (Known slot c) chosen says = chosen slot c says.2
 told_by js node message after (Behind n) chosen says = tt
 told_by js node message after (Refused ballot) chosen says = tt

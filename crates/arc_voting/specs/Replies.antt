@@ -24,12 +24,12 @@ slot_of (Prepare slot ballot) = slot
 slot_of (Accept slot ballot c) = slot
 slot_of (Learn slot c) = slot
 
--- The ballot that a message asks for; 0 where it asks for none.
-abbrev pub ballot_in : Message → ℕ
-ballot_in (Status slot) = 0
-ballot_in (Prepare slot ballot) = ballot
-ballot_in (Accept slot ballot c) = ballot
-ballot_in (Learn slot c) = 0
+-- A message that this promise refuses: one that asks for a promise no higher, or for a vote in a lower ballot.
+abbrev pub IsRefusedBy : ℕ → Message → Type 0
+IsRefusedBy promise (Status slot) = ⊥
+IsRefusedBy promise (Prepare slot ballot) = ballot ≤ promise
+IsRefusedBy promise (Accept slot ballot c) = ballot < promise
+IsRefusedBy promise (Learn slot c) = ⊥
 
 -- A node that kept the one journal gave a promise at the slot, and keeps the other one: the promise ends it, in a higher
 -- ballot than any before it, and is counted with the vote that was told.
@@ -63,13 +63,13 @@ pub record HasLearned (journal after : List Record) (slot : ℕ) (c : Command) :
 -- What an answer to a message says of the journal that was kept, and of the one that is kept after it.
 abbrev pub Says : List Record → Message → List Record → Answer → Type 0
 Says journal message after (At n ballot known) =
-    (after ≡ journal) × (n ≡ closed_len journal) × (ballot ≡ promise journal)
+    (message ≡ Status (slot_of message)) × (after ≡ journal) × (n ≡ closed_len journal) × (ballot ≡ promise journal)
     × (known ≡ slice_get (applied journal) (slot_of message))
 Says journal message after (Known slot c) =
     (after ≡ journal) × (slot ≡ slot_of message) × (slice_get (applied journal) slot ≡ Some c)
 Says journal message after (Behind n) = (after ≡ journal) × (n ≡ closed_len journal) × (n < slot_of message)
 Says journal message after (Refused ballot) =
-    (after ≡ journal) × (slot_of message ≡ closed_len journal) × (ballot ≡ promise journal) × (ballot_in message ≤ ballot)
+    (after ≡ journal) × (slot_of message ≡ closed_len journal) × (ballot ≡ promise journal) × IsRefusedBy ballot message
 Says journal message after (Promise slot ballot vote) =
     (message ≡ Prepare slot ballot) × HasPromised journal after slot ballot vote
 Says journal message after (Accepted slot ballot) =
