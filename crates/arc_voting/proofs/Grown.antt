@@ -11,12 +11,13 @@ use Rattle.arc_data.specs.declared.record.Record.{Record}
 use Rattle.arc_data.specs.declared.record.Record.TheVariants.{Voted}
 use Rattle.arc_voting.specs.Journals.{Journals, promises_of, promised_count, is_promised}
 use Rattle.arc_voting.specs.Chosen.{HoldsVote}
-use Rattle.arc_voting.specs.Growth.{Grows, SameAreSound, VotesStay, ChosenStay, AppliedOnlyGrow, AreSame}
+use Rattle.arc_voting.specs.Growth.{Grows, SameAreSound, VotesStay, ChosenStay, ChosenHaveVotes, AppliedOnlyGrow, AreSame}
 use Rattle.arc_voting.specs.Handled.{appended, Handles}
 use Rattle.arc_voting.specs.Lists.{applied, closed_by}
 use Rattle.arc_voting.specs.Staying.{HandledGrow, StaysWhileTheyGrow, StayingIsLawful}
 use Rattle.arc_voting.proofs.Facts.{facts_of, sound_from}
 use Rattle.arc_voting.proofs.Growing.{IsStep}
+use Rattle.arc_voting.proofs.Meeting.{some_of_three}
 use Rattle.arc_voting.proofs.Same.{facts_over}
 use Rattle.arc_voting.proofs.Three.{by_three_map}
 
@@ -56,6 +57,11 @@ pub applied_only_grow : AppliedOnlyGrow
 applied_only_grow js ks node grows lt =
     let more : (rest : List Record) × (ks node ≡ js node ++ rest) = grows node lt in
     (applied more.0, sym (ap applied more.1 ∙ filter_map-append closed_by (js node) more.0))
+
+pub chosen_have_votes : ChosenHaveVotes
+chosen_have_votes js slot c (ballot, three) =
+    let voter : (n : ℕ) × (n < 5) × HoldsVote (js n) slot ballot c = some_of_three (λ n. HoldsVote (js n) slot ballot c) three in
+    (voter.0, slot, ballot, voter.1, voter.2)
 
 -- no promise is lost
 grown_count : (js ks : Journals) (node : ℕ) → Grows js ks → node < 5 → promised_count (js node) ≤ promised_count (ks node)

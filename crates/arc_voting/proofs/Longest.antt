@@ -1,12 +1,14 @@
 -- The longest of five applied lists.
-use Rattle.std.proofs.Common.{◌≡◌, ℕ, ◌+◌, ◌<◌, ◌≤◌, ◌⊎◌, inl, inr, if◌then◌else◌, nat_lt, List, [], ◌∷◌, ◌++◌, length, subst, sym, ◌∙◌, ap, arith, refl, length-append, append_assoc}
+use Rattle.std.proofs.Common.{◌≡◌, ℕ, ◌+◌, ◌<◌, ◌≤◌, ◌⊎◌, inl, inr, if◌then◌else◌, nat_lt, Some, List, [], ◌∷◌, ◌++◌, length, subst, sym, ◌∙◌, ap, arith, refl, length-append, append_assoc}
+use Rattle.std.specs.List.{slice_get}
 use Rattle.std.proofs.lemmas.Bool.{cases_Bool, ltb-true, ltb-false}
 use Rattle.std.proofs.lemmas.List.{append-nil}
 use Rattle.arc_data.specs.declared.command.Command.{Command}
 use Rattle.arc_voting.specs.Journals.{Journals}
-use Rattle.arc_voting.specs.Laws.{Begins, LongestIsOne, EachBeginsTheLongest, LongestOnlyGrows}
+use Rattle.arc_voting.specs.Laws.{Begins, LongestIsOne, EachBeginsTheLongest, LongestAreChosen, LongestOnlyGrows}
 use Rattle.arc_voting.specs.Lists.{applied, longer, longest}
-use Rattle.arc_voting.proofs.Agreeing.{sound_history}
+use Rattle.arc_voting.proofs.Agreeing.{applied_is_chosen, sound_history}
+use Rattle.arc_voting.proofs.Facts.{facts_of}
 use Rattle.arc_voting.proofs.Three.{below_five}
 
 -- the longer of two lists is one of them, and no shorter than either
@@ -102,6 +104,12 @@ each_begins_the_longest js node sound lt =
     subst P (sym one.2)
     (begins_by_length (applied (js node)) (applied (js one.0)) (sound_history js sound node one.0 lt one.1)
     (omega (arith, l, none_longer js node lt)))
+
+pub longest_are_chosen : LongestAreChosen
+longest_are_chosen js slot c sound at =
+    let one : (n : ℕ) × (n < 5) × (longest js ≡ applied (js n)) = longest_is_one js in
+    let P : List Command → Type 0 = λ xs. slice_get xs slot ≡ Some c in
+    applied_is_chosen js (facts_of js sound) one.0 slot c one.1 (subst P one.2 at)
 
 pub longest_only_grows : LongestOnlyGrows
 longest_only_grows js ks sound grew =

@@ -20,6 +20,10 @@ Grows js ks = (node : ℕ) → node < 5 → (more : List Record) × (ks node ≡
 abbrev pub HasVote : Journals → Command → Type 0
 HasVote js c = (node slot ballot : ℕ) × (node < 5) × HoldsVote (js node) slot ballot c
 
+-- A chosen command has a vote.
+abbrev pub ChosenHaveVotes : Type 0
+ChosenHaveVotes = (js : Journals) (slot : ℕ) (c : Command) → IsChosen js slot c → HasVote js c
+
 -- Journals that are the same at the five nodes are sound together.
 abbrev pub SameAreSound : Type 0
 SameAreSound = (js ks : Journals) → AreSame js ks → IsSound js → IsSound ks

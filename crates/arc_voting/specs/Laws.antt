@@ -1,5 +1,6 @@
 -- What sound journals promise: one command a slot, one history, and no message that changes that.
-use Rattle.std.specs.Prelude.{ℕ, ◌≡◌, ◌≢◌, ◌<◌, ◌⊎◌, List, ◌++◌, AllPairs}
+use Rattle.std.specs.Prelude.{ℕ, ◌≡◌, ◌≢◌, ◌<◌, ◌⊎◌, Some, List, ◌++◌, AllPairs}
+use Rattle.std.specs.List.{slice_get}
 use Rattle.arc_data.specs.declared.command.Command.{Command}
 use Rattle.arc_voting.specs.Journals.{Journals}
 use Rattle.arc_voting.specs.Chosen.{IsChosen}
@@ -30,6 +31,10 @@ LongestIsOne = (js : Journals) → (node : ℕ) × (node < 5) × (longest js ≡
 -- Each applied list of sound journals begins the longest one.
 abbrev pub EachBeginsTheLongest : Type 0
 EachBeginsTheLongest = (js : Journals) (node : ℕ) → IsSound js → node < 5 → Begins (applied (js node)) (longest js)
+
+-- Each command of the longest list of sound journals is chosen, at its place.
+abbrev pub LongestAreChosen : Type 0
+LongestAreChosen = (js : Journals) (slot : ℕ) (c : Command) → IsSound js → slice_get (longest js) slot ≡ Some c → IsChosen js slot c
 
 -- Where each applied list only grew and the later journals are sound, the longest list only grew.
 abbrev pub LongestOnlyGrows : Type 0

@@ -1,8 +1,8 @@
 //! What sound journals promise, each law as a call that does nothing.
 ghost use Rattle.arc_voting.specs.Journals.{Journals};
 ghost use Rattle.arc_voting.specs.Sound.{IsSound};
-ghost use Rattle.arc_voting.specs.Laws.{ChosenAreEqual, HaveOneHistory, IdsDiffer, LongestIsOne, EachBeginsTheLongest, LongestOnlyGrows};
-ghost use Rattle.arc_voting.specs.Growth.{SameAreSound, VotesStay, ChosenStay, AppliedOnlyGrow};
+ghost use Rattle.arc_voting.specs.Laws.{ChosenAreEqual, HaveOneHistory, IdsDiffer, LongestIsOne, EachBeginsTheLongest, LongestAreChosen, LongestOnlyGrows};
+ghost use Rattle.arc_voting.specs.Growth.{SameAreSound, VotesStay, ChosenStay, ChosenHaveVotes, AppliedOnlyGrow};
 ghost use Rattle.arc_voting.specs.Staying.{HandledGrow, StaysWhileTheyGrow, StayingIsLawful, NewVotesWereAskedFor, NoCommandBegins};
 ghost use Rattle.arc_voting.specs.Order.{LawfulMailKeepsOrder, HandlingKeepsStarts, DrawnIdsAreNew, VotedAreInOrder, FirstStartsAreSound, NextStartKeepsSound, NextStartOnlyGrows};
 ghost use Rattle.arc_voting.specs.Replies.{AnswersAreFacts, CountedStays, CountedVoteStands, VotedByThreeIsChosen, ToldAreChosen, AppliedAreChosen, ChosenAreApplied, LearningReaches, LearnIsAnswered, PromiseIsGiven, VoteIsGiven, NodeGivesItsVote};
@@ -52,6 +52,7 @@ pub fn journals_only_grow()
     ensures handled { HandledGrow }
     ensures votes { VotesStay }
     ensures chosen { ChosenStay }
+    ensures voted { ChosenHaveVotes }
     ensures applied { AppliedOnlyGrow }
 {}
 
@@ -122,9 +123,11 @@ pub fn commands_may_begin()
     ensures proposal { ProposalMayBegin }
 {}
 
-/// Each applied list of sound journals begins the longest one, which is one of them; and where each only grew, so did that.
+/// Each applied list of sound journals begins the longest one, which is one of them and holds chosen commands alone; and
+/// where each only grew, so did that.
 pub fn longest_list_only_grows()
     ensures one { LongestIsOne }
     ensures begins { EachBeginsTheLongest }
+    ensures chosen { LongestAreChosen }
     ensures grows { LongestOnlyGrows }
 {}
