@@ -4,7 +4,7 @@ use Rattle.std.proofs.lemmas.Bool.{cases_lt}
 use Rattle.std.proofs.lemmas.List.{length_push, take_all, take_at}
 use Rattle.arc_data.specs.declared.record.Record.{Record}
 use Rattle.arc_voting.specs.Handled.{appended, Handles, FrontsAreHandled}
-use Rattle.arc_voting.proofs.Mailed.{only_appended}
+use Rattle.arc_voting.proofs.Grown.{only_appended}
 
 -- a turn appends one entry at most
 appended_length : (journal : List Record) (o : Option Record) → length (appended journal o) ≤ length journal + 1

@@ -22,3 +22,12 @@ pub mod Tops
 pub mod Proposing
 pub mod Known
 pub mod Fronts
+pub mod Grown
+pub mod Handling
+pub mod Ordering
+pub mod Starting
+pub mod Rows
+pub mod Answering
+pub mod Bounding
+pub mod Owning
+pub mod Longest

@@ -1,10 +1,8 @@
 -- Lawful mail keeps sound journals sound.
-use Rattle.std.proofs.Common.{◌≡◌, ◌≢◌, ℕ, zero, suc, ◌%◌, ◌+◌, ◌*◌, ◌<◌, ◌≤◌, ◌⊎◌, inl, inr, if◌then◌else◌, nat_lt, Option, Some, None, List, [], ◌∷◌, ◌++◌, take, subst, sym, ◌∙◌, ap, arith, refl}
+use Rattle.std.proofs.Common.{◌≡◌, ◌≢◌, ℕ, zero, suc, ◌%◌, ◌+◌, ◌<◌, ◌≤◌, ◌⊎◌, inl, inr, if◌then◌else◌, nat_lt, Option, Some, None, List, [], ◌∷◌, ◌++◌, take, subst, sym, ◌∙◌, ap, arith, refl}
 use Rattle.std.specs.Prelude.{⊤}
 use Rattle.std.specs.List.{Contains}
 use Rattle.std.proofs.lemmas.Bool.{cases_lt, cases_eq, cases_Bool, ltb-true, lt-ltb}
-use Rattle.std.proofs.lemmas.List.{append-nil, append_assoc}
-use Rattle.std.proofs.lemmas.List.Elements.{filter_map-append}
 use Rattle.arc_data.specs.Entries.{closed_len, promise}
 use Rattle.arc_data.specs.declared.command.Command.{Command}
 use Rattle.arc_data.specs.declared.message.Message.{Message}
@@ -15,45 +13,28 @@ use Rattle.arc_data.specs.declared.record.Record.TheVariants.{Promised, Voted, C
 use Rattle.arc_voting.specs.Journals.{Journals, promises_of, with_entry}
 use Rattle.arc_voting.specs.Chosen.{HoldsVote, IsChosen}
 use Rattle.arc_voting.specs.Formed.{IsBallot, IsOneCommand, IsPromise, IsVote}
-use Rattle.arc_voting.specs.Lawful.{Mail, IsOwnVote, IsLawfulTo}
-use Rattle.arc_voting.specs.Lists.{applied, closed_by}
+use Rattle.arc_voting.specs.Lawful.{Mail, IsOwnVote, IsLawfulTo, StaysLawful}
+use Rattle.arc_voting.specs.Growth.{AreSame, Grows}
 use Rattle.arc_voting.specs.Handled.{appended, Handles, IsHandled, LawfulMailKeepsSound, HistoriesOnlyGrow}
 use Rattle.arc_voting.specs.Tracks.{IsWellFormedWhole}
 use Rattle.arc_voting.specs.Turn.{Turn, IsTurn, answers_only, appends, vote_turn, promise_turn, turn_of}
 use Rattle.arc_voting.proofs.Added.{AdmitsVote, Admits, added}
 use Rattle.arc_voting.proofs.Contained.{contains_head, contains_tail}
 use Rattle.arc_voting.proofs.Facts.{Facts, facts_of, sound_from}
-use Rattle.arc_voting.proofs.Growing.{IsStep, still, promises_grow, promises_more, chosen_still, starts_still}
-use Rattle.arc_voting.proofs.Same.{AreSame, chosen_over, promises_over, facts_over, replaced, replaced_here, replaced_other, with_entry_step}
+use Rattle.arc_voting.proofs.Grown.{step_grown, same_grown, handled_grow, applied_only_grow, stays_while_they_grow}
+use Rattle.arc_voting.proofs.Growing.{IsStep, still, promises_grow, promises_more, starts_still}
+use Rattle.arc_voting.proofs.Same.{facts_over, replaced, replaced_here, replaced_other, with_entry_step}
 use Rattle.arc_voting.proofs.Three.{below_five}
 use Rattle.arc_voting.proofs.Turns.{at_end_appends, promise_appends, vote_appends}
 use Rattle.arc_voting.proofs.Uses.{one_command, vote_in_range, no_promise_above}
 use Rattle.arc_voting.proofs.Walks.{on_votes_from}
 
--- a message that stays lawful, whatever else is handled first
-abbrev pub Lasts : Journals → Message → Type 0
-Lasts js (Status slot) = ⊤
-Lasts js (Prepare slot ballot) = (1 ≤ ballot) × (ballot ≤ 5 * (promises_of js + 1))
-Lasts js (Accept slot ballot c) = HoldsVote (js (ballot % 5)) slot ballot c
-Lasts js (Learn slot c) = IsChosen js slot c
-
+-- what stays lawful for the former journals does so for the later ones
 abbrev pub LastLonger : Journals → Journals → Type 0
-LastLonger js ks = (message : Message) → Lasts js message → Lasts ks message
+LastLonger js ks = (message : Message) → StaysLawful js message → StaysLawful ks message
 
-lasts_still : (js ks : Journals) (node : ℕ) (entry : Record) → IsStep js ks node entry → LastLonger js ks
-lasts_still js ks node entry step (Status slot) lasts = tt
-lasts_still js ks node entry step (Prepare slot ballot) lasts =
-    (lasts.0, omega (arith, lasts.1, promises_grow js ks node entry step))
-lasts_still js ks node entry step (Accept slot ballot c) lasts =
-    still js ks node entry (Voted slot ballot c) step (ballot % 5) (omega arith) lasts
-lasts_still js ks node entry step (Learn slot c) lasts = chosen_still js ks node entry step slot c lasts
-
-lasts_over : (js ks : Journals) → AreSame js ks → LastLonger js ks
-lasts_over js ks same (Status slot) lasts = tt
-lasts_over js ks same (Prepare slot ballot) lasts = (lasts.0, omega (arith, lasts.1, promises_over js ks same))
-lasts_over js ks same (Accept slot ballot c) lasts =
-    let P : List Record → Type 0 = λ xs. HoldsVote xs slot ballot c in subst P (sym (same (ballot % 5) (omega arith))) lasts
-lasts_over js ks same (Learn slot c) lasts = chosen_over js ks same slot c lasts
+lasts_longer : (js ks : Journals) → Grows js ks → LastLonger js ks
+lasts_longer js ks grows message stays = stays_while_they_grow js ks message grows stays
 
 -- a well-formed journal isn't empty
 pub not_empty : (promises : ℕ) (journal : List Record) → IsWellFormedWhole promises journal → journal ≢ []
@@ -112,7 +93,7 @@ as_closed P slot s c d same holds =
     subst Z two (subst X one holds)
 
 -- a promise in a higher ballot may be appended
-admits_promise : (js ks : Journals) (node slot ballot : ℕ) → Facts js → node < 5 → Lasts js (Prepare slot ballot) → promise (js node) < ballot →
+admits_promise : (js ks : Journals) (node slot ballot : ℕ) → Facts js → node < 5 → StaysLawful js (Prepare slot ballot) → promise (js node) < ballot →
     IsStep js ks node (Promised (closed_len (js node)) ballot) → Admits js ks node (Promised (closed_len (js node)) ballot)
 admits_promise js ks node slot ballot facts lt lasts above step =
     let formed : IsWellFormedWhole (promises_of js) (js node) = facts.formed node lt in
@@ -133,7 +114,7 @@ admits_promise js ks node slot ballot facts lt lasts above step =
     }
 
 -- a vote may be appended where the ballot's owner voted so
-admits_vote : (js ks : Journals) (node slot ballot : ℕ) (c : Command) → Facts js → node < 5 → Lasts js (Accept slot ballot c) →
+admits_vote : (js ks : Journals) (node slot ballot : ℕ) (c : Command) → Facts js → node < 5 → StaysLawful js (Accept slot ballot c) →
     slot ≡ closed_len (js node) → promise (js node) ≤ ballot → IsStep js ks node (Voted slot ballot c) →
     Admits js ks node (Voted slot ballot c)
 admits_vote js ks node slot ballot c facts lt vote end high step =
@@ -166,7 +147,7 @@ admits_vote js ks node slot ballot c facts lt vote end high step =
     }
 
 -- what was chosen may be closed
-admits_closed : (js ks : Journals) (node slot : ℕ) (c : Command) → Facts js → node < 5 → Lasts js (Learn slot c) → slot ≡ closed_len (js node) →
+admits_closed : (js ks : Journals) (node slot : ℕ) (c : Command) → Facts js → node < 5 → StaysLawful js (Learn slot c) → slot ≡ closed_len (js node) →
     IsStep js ks node (Closed slot c) → Admits js ks node (Closed slot c)
 admits_closed js ks node slot c facts lt chosen end step = record {
   of_five = lt;
@@ -176,15 +157,15 @@ admits_closed js ks node slot c facts lt chosen end step = record {
   closes = λ s d is. as_closed (IsChosen js) slot s c d is chosen;
 }
 
-no_entry : (turn other : Turn) (entry : Record) → turn ≡ other → other.append ≡ None → turn.append ≡ Some entry → ⊥
+pub no_entry : (turn other : Turn) (entry : Record) → turn ≡ other → other.append ≡ None → turn.append ≡ Some entry → ⊥
 no_entry turn other entry is none some =
     let e : turn.append ≡ None = ap (λ t. t.append) is ∙ none in cc
 
-some_is : (x y : Record) → Some x ≡ Some y → x ≡ y
+pub some_is : (x y : Record) → Some x ≡ Some y → x ≡ y
 some_is x y same = cc
 
 -- what the table appends for a message that lasts may be appended
-admits : (js ks : Journals) (node : ℕ) (message : Message) (turn : Turn) (entry : Record) → Facts js → node < 5 → Lasts js message →
+admits : (js ks : Journals) (node : ℕ) (message : Message) (turn : Turn) (entry : Record) → Facts js → node < 5 → StaysLawful js message →
     IsTurn (js node) message turn → turn.append ≡ Some entry → IsStep js ks node entry → Admits js ks node entry
 admits js ks node (Status slot) turn entry facts lt lasts (stands, iff, is) some step =
     absurd (no_entry turn (turn_of stands (js node) (Status slot)) entry is refl some)
@@ -221,20 +202,20 @@ all_same js ks node here others n lt =
 
 -- a node handles one message that lasts
 handle_case : (js ks : Journals) (node : ℕ) (message : Message) (turn : Turn) (o : Option Record) → Facts js → node < 5 →
-    Lasts js message → IsTurn (js node) message turn → turn.append ≡ o → ks node ≡ appended (js node) o →
+    StaysLawful js message → IsTurn (js node) message turn → turn.append ≡ o → ks node ≡ appended (js node) o →
     ((n : ℕ) → n < 5 → n ≢ node → ks n ≡ js n) → Facts ks × LastLonger js ks
 handle_case js ks node message turn None facts lt lasts is none here others =
     let same : AreSame js ks = all_same js ks node here others in
-    (facts_over js ks same facts, lasts_over js ks same)
+    (facts_over js ks same facts, lasts_longer js ks (same_grown js ks same))
 handle_case js ks node message turn (Some entry) facts lt lasts is some here others =
     let step : IsStep js ks node entry = record { here = here; others = others } in
     let may : Admits js ks node entry = admits js ks node message turn entry facts lt lasts is some step in
-    (added js ks node entry facts may, lasts_still js ks node entry step)
+    (added js ks node entry facts may, lasts_longer js ks (step_grown js ks node entry step))
 
 -- all of these messages last
 abbrev pub AllLast : Journals → List Message → Type 0
 AllLast js [] = ⊤
-AllLast js (message ∷ later) = Lasts js message × AllLast js later
+AllLast js (message ∷ later) = StaysLawful js message × AllLast js later
 
 all_last : (js ks : Journals) (messages : List Message) → LastLonger js ks → AllLast js messages → AllLast ks messages
 all_last js ks [] longer lasts = tt
@@ -250,7 +231,7 @@ handles_all : (messages : List Message) (js ks : Journals) (node : ℕ) → node
     Handles messages (js node) (ks node) → ((n : ℕ) → n < 5 → n ≢ node → ks n ≡ js n) → Facts ks × LastLonger js ks
 handles_all [] js ks node lt facts lasts here others =
     let same : AreSame js ks = all_same js ks node here others in
-    (facts_over js ks same facts, lasts_over js ks same)
+    (facts_over js ks same facts, lasts_longer js ks (same_grown js ks same))
 handles_all (message ∷ later) js ks node lt facts lasts (turn, is, rest) others =
     let next : List Record = appended (js node) turn.append in
     let mid : Journals = replaced js node next in
@@ -288,7 +269,7 @@ chain : (js after : Journals) (mail : Mail) → Facts js → ((n : ℕ) → n < 
     (k : ℕ) → k ≤ 5 → Facts (mixed js after k) × LastLonger js (mixed js after k)
 chain js after mail facts lasts handled zero le =
     let same : AreSame js (mixed js after 0) = λ n lt. mixed_past js after 0 n (omega arith) in
-    (facts_over js (mixed js after 0) same facts, lasts_over js (mixed js after 0) same)
+    (facts_over js (mixed js after 0) same facts, lasts_longer js (mixed js after 0) (same_grown js (mixed js after 0) same))
 chain js after mail facts lasts handled (suc k) le =
     let lt : k < 5 = omega arith in
     let before : Facts (mixed js after k) × LastLonger js (mixed js after k) = chain js after mail facts lasts handled k (omega arith) in
@@ -313,7 +294,7 @@ all_last_sound js after mail facts lasts handled =
 abbrev OwnVote : Journals → Mail → ℕ → Type 0
 OwnVote js mail node = (slot ballot : ℕ) × (c : Command) × IsOwnVote js mail node slot ballot c
 
-sorted_one : (js : Journals) (mail : Mail) (node : ℕ) (message : Message) → IsLawfulTo js mail node message → Lasts js message ⊎ OwnVote js mail node
+sorted_one : (js : Journals) (mail : Mail) (node : ℕ) (message : Message) → IsLawfulTo js mail node message → StaysLawful js message ⊎ OwnVote js mail node
 sorted_one js mail node (Status slot) lawful = inl tt
 sorted_one js mail node (Prepare slot ballot) lawful = inl lawful
 sorted_one js mail node (Accept slot ballot c) (inl vote) = inl vote
@@ -421,25 +402,5 @@ mail_keeps_sound js after mail sound lawful handled =
       | inr (node, lt, (slot, ballot, c, own)) ↦ sound_from after (own_sound js after mail node slot ballot c facts lt own handled)
     ]
 
-joined : (journal : List Record) (entry : Record) (more : List Record) → (journal ++ entry ∷ []) ++ more ≡ journal ++ entry ∷ more
-joined journal entry more = simp append_assoc
-
-more_appended : (journal after : List Record) (o : Option Record) (more : List Record) → after ≡ appended journal o ++ more →
-    (rest : List Record) × (after ≡ journal ++ rest)
-more_appended journal after None more is = (more, is)
-more_appended journal after (Some entry) more is = (entry ∷ more, is ∙ joined journal entry more)
-
--- what is handled is only appended
-pub only_appended : (messages : List Message) (journal after : List Record) → Handles messages journal after →
-    (rest : List Record) × (after ≡ journal ++ rest)
-only_appended [] journal after is = ([], is ∙ sym (append-nil journal))
-only_appended (message ∷ later) journal after (turn, is, rest) =
-    let finally : (more : List Record) × (after ≡ appended journal turn.append ++ more) =
-    only_appended later (appended journal turn.append) after rest in
-    more_appended journal after turn.append finally.0 finally.1
-
 pub histories_grow : HistoriesOnlyGrow
-histories_grow js after mail node handled lt =
-    let own : (count : ℕ) × Handles (take count (mail node)) (js node) (after node) = handled node lt in
-    let more : (rest : List Record) × (after node ≡ js node ++ rest) = only_appended (take own.0 (mail node)) (js node) (after node) own.1 in
-    (applied more.0, sym (ap applied more.1 ∙ filter_map-append closed_by (js node) more.0))
+histories_grow js after mail node handled lt = applied_only_grow js after node (handled_grow js after mail handled) lt

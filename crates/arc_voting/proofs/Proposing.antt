@@ -95,7 +95,7 @@ settles_unvoted js facts n slot ballot k c vote lt counted low none =
     )
 
 -- a told vote stands
-told_stands : (js : Journals) (n slot ballot : ℕ) (vote : Option (ℕ × Command)) (top : ℕ × Command) → IsCounted (js n) slot ballot vote →
+pub told_stands : (js : Journals) (n slot ballot : ℕ) (vote : Option (ℕ × Command)) (top : ℕ × Command) → IsCounted (js n) slot ballot vote →
     vote ≡ Some top → HoldsVote (js n) slot top.0 top.1
 told_stands js n slot ballot vote top counted is =
     in_whole (js n) counted.before counted.later (Promised slot ballot) (Voted slot top.0 top.1) counted.stands

@@ -9,16 +9,13 @@ use Rattle.arc_data.specs.declared.record.Record.{Record}
 use Rattle.arc_data.specs.declared.record.Record.TheVariants.{Voted, Closed}
 use Rattle.arc_voting.specs.Journals.{Journals, promises_of, promised_count, with_entry}
 use Rattle.arc_voting.specs.Chosen.{HoldsVote, IsChosen}
+use Rattle.arc_voting.specs.Growth.{AreSame}
 use Rattle.arc_voting.specs.Ids.{StartsAtItsNode, VotesSince}
 use Rattle.arc_voting.specs.Settled.{Settles, LowerAreSettled}
 use Rattle.arc_voting.specs.Tracks.{IsWellFormedWhole}
 use Rattle.arc_voting.proofs.Facts.{Facts}
 use Rattle.arc_voting.proofs.Growing.{IsStep}
 use Rattle.arc_voting.proofs.Three.{by_three_map}
-
--- the five journals are the same
-abbrev pub AreSame : Journals → Journals → Type 0
-AreSame js ks = (n : ℕ) → n < 5 → ks n ≡ js n
 
 turned : (js ks : Journals) → AreSame js ks → AreSame ks js
 turned js ks same n lt = sym (same n lt)

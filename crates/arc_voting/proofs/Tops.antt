@@ -11,7 +11,7 @@ use Rattle.arc_voting.specs.Chosen.{HoldsVote}
 use Rattle.arc_voting.proofs.Contained.{contains_cons, contains_head, contains_tail}
 
 -- a vote of highest ballot among some
-abbrev IsTop : List (ℕ × Command) → Option (ℕ × Command) → Type 0
+abbrev pub IsTop : List (ℕ × Command) → Option (ℕ × Command) → Type 0
 IsTop votes None = (v : ℕ × Command) → Contains votes v → ⊥
 IsTop votes (Some top) = Contains votes top × ((v : ℕ × Command) → Contains votes v → v.0 ≤ top.0)
 
@@ -45,7 +45,7 @@ top_step first votes None none = (
 )
 top_step first votes (Some top) (there, most) = top_choice first top votes (nat_lt first.0 top.0) refl there most
 
-is_top : (votes : List (ℕ × Command)) → IsTop votes (highest votes)
+pub is_top : (votes : List (ℕ × Command)) → IsTop votes (highest votes)
 is_top [] = λ v held. absurd (omega (arith, held.1))
 is_top (first ∷ votes) = top_step first votes (highest votes) (is_top votes)
 

@@ -18,7 +18,7 @@ if_appends : (b : Bool) (x y : Turn) (entry : Record) → x.append ≡ None → 
 if_appends true x y entry none appended = cc
 if_appends false x y entry none appended = (refl, appended)
 
-option_cases : (o : Option Command) → (o ≡ None) ⊎ ((c : Command) × (o ≡ Some c))
+pub option_cases : (o : Option Command) → (o ≡ None) ⊎ ((c : Command) × (o ≡ Some c))
 option_cases None = inl refl
 option_cases (Some c) = inr (c, refl)
 
@@ -31,7 +31,7 @@ there (x ∷ xs) slot none lt =
     let some : slice_get (x ∷ xs) slot ≡ Some (get_or (x ∷ xs) slot x) = slice_get-get_or (x ∷ xs) slot x lt in cc
 
 -- past the applied list there is nothing
-past_end : (xs : List Command) (slot : ℕ) → slice_get xs slot ≡ None → length xs ≤ slot
+pub past_end : (xs : List Command) (slot : ℕ) → slice_get xs slot ≡ None → length xs ≤ slot
 past_end xs slot none =
     elim (cases_lt slot (length xs)) [
       | inl inside ↦ absurd (there xs slot none inside)

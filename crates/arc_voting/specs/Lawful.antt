@@ -45,6 +45,18 @@ IsLawfulTo js mail node (Accept slot ballot c) =
     HoldsVote (js (ballot % 5)) slot ballot c ⊎ IsOwnVote js mail node slot ballot c
 IsLawfulTo js mail node (Learn slot c) = IsChosen js slot c
 
+-- A message that stays lawful to each node, whatever is handled first: a promise is asked for in a ballot that it may
+-- have, a vote where the ballot's owner voted so, and only what is chosen is told.
+abbrev pub StaysLawful : Journals → Message → Type 0
+StaysLawful js (Status slot) = ⊤
+StaysLawful js (Prepare slot ballot) = (1 ≤ ballot) × (ballot ≤ 5 * (promises_of js + 1))
+StaysLawful js (Accept slot ballot c) = HoldsVote (js (ballot % 5)) slot ballot c
+StaysLawful js (Learn slot c) = IsChosen js slot c
+
+-- Every message stays lawful.
+abbrev pub AllStaysLawful : Journals → Mail → Type 0
+AllStaysLawful js mail = (node : ℕ) (message : Message) → node < 5 → Contains (mail node) message → StaysLawful js message
+
 -- Every message is lawful for these journals.
 abbrev pub IsLawful : Journals → Mail → Type 0
 IsLawful js mail = (node : ℕ) (message : Message) → node < 5 → Contains (mail node) message → IsLawfulTo js mail node message

@@ -15,3 +15,9 @@ pub mod Lawful
 pub mod Laws
 pub mod Handled
 pub mod Proposal
+pub mod Growth
+pub mod Staying
+pub mod Order
+pub mod Replies
+pub mod Bounds
+pub mod Owning

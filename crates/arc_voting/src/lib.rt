@@ -13,10 +13,13 @@
 //! - V6, no id is chosen twice.
 //!
 //! `specs/` says the rules as facts of one entry (`Formed`, `Settled`, `Ids`, `Sound`), the table of what a node appends
-//! and answers (`Turn`), which mail may be sent (`Lawful`), and what an endpoint may propose (`Proposal`).
+//! and answers (`Turn`), which mail may be sent (`Lawful`), what an endpoint may propose (`Proposal`), and what an answer
+//! says of the node that gave it (`Replies`).
 //!
 //! The laws of sound journals are calls that do nothing (`laws.rt`): one command is chosen at a slot, the applied lists are
 //! one history, and neither lawful mail, however much of it is handled by whom, nor a vote for a proposal changes that.
+//! Others are what five nodes are built on: identifiers stay in order, so that a drawn one is new; a message whose ground is
+//! a vote or a chosen command stays lawful, however late it comes; and a node that has what it lacks gives its vote.
 //!
 //! The audit takes about n log n steps over journals that keep the rules on identifiers: an index of identifiers is filled
 //! once, and each entry compared with it. Where that fails, the entries are gone through one by one for the first breach.
@@ -44,9 +47,12 @@ mod track;
 pub use applied::applied_at;
 pub use breach::{AuditEnd, Breach};
 pub use breaches::audit;
+pub use entries::holds_vote;
 pub use laws::{
-    chosen_are_equal, fronts_are_handled, have_one_history, histories_only_grow,
-    lawful_mail_keeps_sound, proposals_keep_sound,
+    answers_are_facts, ballots_are_bounded, chosen_are_equal, commands_may_begin,
+    fronts_are_handled, have_one_history, histories_only_grow, ids_stay_in_order,
+    journals_only_grow, lawful_mail_keeps_sound, longest_list_only_grows, mail_stays_lawful,
+    nodes_give_their_votes, proposals_keep_sound, starts_keep_sound,
 };
-pub use majority::chosen;
+pub use majority::{by_three, chosen};
 pub use rule::Rule;

@@ -12,7 +12,7 @@ use arc_bytes::Five;
 use arc_data::{Command, Record};
 
 /// Whether it holds of at least three nodes.
-fn by_three(holds: &Five<bool>) -> bool
+pub fn by_three(holds: &Five<bool>) -> bool
     ensures { IsTrue result ↔ ByThree (λ node. IsTrue (at holds.now node)) }
 {
     let mut count: u8 = 0;
