@@ -97,9 +97,16 @@ pub trait Disk {
 
 /// A disk that can be told to stop, and crashed.
 pub trait Rig: Disk {
+    /// What setting a stop makes of a disk: the disk before, the number of calls, the fill, and the disk after.
+    ghost armed: { Self → ℕ → ℕ → Self → Type 0 };
+
+    /// What a crash makes of a disk: the disk before, and the disk after.
+    ghost crashed: { Self → Self → Type 0 };
+
     /// Sets a stop in the device call with this number from now on, counted from 0: that call and each later one
     /// fails. An earlier stop is gone. What a crash will leave is made of `fill` where the disk chooses bytes.
     fn arm(&mut self, calls: u32, fill: u8)
+        ensures armed { Self.armed self.old calls fill self.new }
         ensures stop { Self.stops_in self.new ≡ Some calls }
         ensures untouched { Self.tells → IsUntouched Self.content Self.may_leave self.old self.new }
         ensures since { Self.tells → (t : ℕ) (image : List ℕ) →
@@ -109,6 +116,7 @@ pub trait Rig: Disk {
     /// Crashes. The disk then reads as something that a crash might have left, nothing waits for a sync, and no stop
     /// is set.
     fn crash(&mut self)
+        ensures crashed { Self.crashed self.old self.new }
         ensures stop { Self.stops_in self.new ≡ None }
         ensures crashes { Self.tells → Crashes Self.content Self.may_leave self.old self.new }
         ensures time { Self.tells → Elapses Self.moment Self.may_leave Self.left_since self.old self.new }

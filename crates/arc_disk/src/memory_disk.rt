@@ -212,22 +212,26 @@ impl Disk for MemoryDisk {
 }
 
 impl Rig for MemoryDisk {
+    ghost armed = { λ old calls fill new. new ≡ after_arm old calls fill };
+
+    ghost crashed = { λ old new. new ≡ after_crash old };
+
     fn arm(&mut self, calls: u32, fill: u8)
+        ensures armed { self.new ≡ after_arm self.old calls fill }
         ensures stop { disk_stops_in self.new ≡ Some calls }
         ensures untouched { IsUntouched content_of may_leave_of self.old self.new }
         ensures since { (t : ℕ) (image : List ℕ) → left_since_of self.new t image ↔ left_since_of self.old t image }
         ensures no_call { IsNoCall moment_of faults_of NoneFails self.old self.new }
-        ensures after { self.new ≡ after_arm self.old calls fill }
     {
         self.schedule.arming = Arming::Armed { calls, fill };
     }
 
     fn crash(&mut self)
+        ensures crashed { self.new ≡ after_crash self.old }
         ensures stop { disk_stops_in self.new ≡ None }
         ensures crashes { Crashes content_of may_leave_of self.old self.new }
         ensures time { Elapses moment_of may_leave_of left_since_of self.old self.new }
         ensures no_call { IsNoCall moment_of faults_of NoneFails self.old self.new }
-        ensures after { self.new ≡ after_crash self.old }
     {
         self.history.crash(self.schedule.fill());
         self.schedule.arming = Arming::Unarmed;

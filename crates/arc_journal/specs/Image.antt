@@ -1,11 +1,12 @@
 -- What the bytes of an image say: its entries, their records, and the first fault.
-use Rattle.std.specs.Prelude.{ℕ, zero, suc, ◌≡◌, ◌≤◌, ◌<◌, ◌+◌, ◌==◌, nat_lt, nat_le, nat_eq, ◌&&◌, ◌||◌, not, Bool, true, false, if◌then◌else◌, List, [], ◌∷◌, ◌++◌, length, take, drop, map, Option, Some, None}
+use Rattle.std.specs.Prelude.{ℕ, zero, suc, ◌≡◌, ◌≤◌, ◌<◌, ◌+◌, ◌==◌, nat_lt, nat_le, nat_eq, ◌&&◌, ◌||◌, not, Bool, true, false, if◌then◌else◌, List, [], ◌∷◌, ◌++◌, length, take, drop, map, All, Option, Some, None}
 use Rattle.std.specs.Int.{w32, from_be_bytes}
 use Rattle.std.specs.List.{filter_map}
 use Rattle.std.specs.Str.{bytes_eq}
 use Rattle.sha2.specs.Sha256.{sha256}
 use Rattle.arc_data.specs.declared.record.Record.{Record}
 use Rattle.arc_data.specs.declared.record.Record.TheVariants.{Opened, Promised, Voted, Closed}
+use Rattle.arc_data.specs.Valid.{IsValidRecord}
 use Rattle.arc_journal.specs.Layout.{signature, sealed, entries, entry_limit, IsImageOf}
 use Rattle.arc_command.specs.Spelling.{record_bytes}
 use Rattle.arc_journal.specs.Bodies.{record_of}
@@ -59,6 +60,14 @@ is_below slots (Opened inc) = true
 is_below slots (Promised from ballot) = true
 is_below slots (Voted slot ballot command) = true
 is_below slots (Closed slot command) = nat_lt slot slots
+
+-- An entry within its limits, that closes no slot beyond the list.
+abbrev pub IsWithin : ℕ → Record → Type 0
+IsWithin slots entry = IsValidRecord entry × (is_below slots entry ≡ true)
+
+-- Entries within their limits, that close no slot beyond the list.
+abbrev pub AreWithin : ℕ → List Record → Type 0
+AreWithin slots entries = All (IsWithin slots) entries
 
 -- Whether a record is there, and closes no slot from this one on.
 abbrev pub is_below_or_none : ℕ → Option Record → Bool

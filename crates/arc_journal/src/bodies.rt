@@ -27,6 +27,7 @@ pub(crate) enum BodyEnd {
 pub(crate) fn read_body(alloc: Global, body: &[u8]) -> Result<Record, BodyEnd>
     ensures read { IfOk result (λ r. record_of body.now ≡ Some r) }
     ensures spelled { IfOk result (λ r. body.now ≡ record_bytes r) }
+    ensures valid { IfOk result IsValidRecord }
     ensures none { IsErrOf result BodyEnd.NoRecord → record_of body.now ≡ None }
 {
     match decode_record(alloc, body) {

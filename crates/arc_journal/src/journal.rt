@@ -4,7 +4,7 @@ ghost use Rattle.arc_bytes.specs.Counts.{HasRisen};
 ghost use Rattle.arc_disk.specs.Calls.{IsNoCall};
 ghost use Rattle.arc_disk.specs.Disk.{Crashes, Elapses, IsUntouched, Keeps, LeavesOnly, Only};
 ghost use Rattle.arc_data.specs.Valid.{IsValidRecord};
-ghost use Rattle.arc_journal.specs.Image.{IsCausedBy, IsJournalOf, IsNoRefusal, first_fault, is_below, own_fault, records_of};
+ghost use Rattle.arc_journal.specs.Image.{AreWithin, IsCausedBy, IsJournalOf, IsNoRefusal, first_fault, is_below, own_fault, records_of};
 ghost use Rattle.arc_journal.specs.Runs.{OpensInRun, ending_of};
 ghost use Rattle.arc_journal.specs.Layout.{entry_limit, head};
 ghost use Rattle.arc_journal.specs.Journal.{AnswersAppend, AppendsInRun, AppendsOne, IsBeforeOrWith, IsNew, IsOfSame, IsSettled, IsUnchanged, count_of, disk_of, node_of, slots_of};
@@ -86,6 +86,8 @@ impl<D: Disk> Journal<D> {
         ensures settled { IfOk result (λ r. IsSettled D.tells D.content D.may_leave r.0) }
         ensures node { IfOk result (λ r. node_of r.0 ≡ node) }
         ensures count { IfOk result (λ r. count_of r.0 ≡ length r.1.items) }
+        // Whatever the disk tells.
+        ensures within { IfOk result (λ r. AreWithin (slots_of r.0) r.1.items) }
         ensures records { D.tells → IfOk result (λ r. r.1.items ≡ records_of (D.content disk)) }
         ensures refused { D.tells → IfErr result (λ e. e.1 ≢ JournalEnd.Disk → IsCausedBy (Some e.1) (first_fault node (D.content disk))) }
         ensures found { D.tells → (slots : ℕ) (records : List Record) → IsJournalOf node slots records (D.content disk) →
@@ -133,6 +135,8 @@ impl<D: Disk> Journal<D> {
         requires { node_of self.old < 5 }
         ensures settled { OnOk result (IsSettled D.tells D.content D.may_leave self.new) }
         ensures count { IfOk result (λ r. count_of self.new ≡ length r.items) }
+        // Whatever the disk tells.
+        ensures within { IfOk result (λ r. AreWithin (slots_of self.old) r.items) }
         ensures records { D.tells → IfOk result (λ r. r.items ≡ records_of (D.content (disk_of self.old))) }
         ensures caused { D.tells → ending_of result ≢ Some JournalEnd.Disk → IsCausedBy (ending_of result)
             (own_fault (node_of self.old) (slots_of self.old) (D.content (disk_of self.old))) }
@@ -240,6 +244,7 @@ impl<D: Disk> Journal<D> {
     pub fn arm(&mut self, calls: u32, fill: u8)
     where
         D: Rig,
+        ensures armed { D.armed (disk_of self.old) calls fill (disk_of self.new) }
         ensures stop { D.stops_in (disk_of self.new) ≡ Some calls }
         ensures untouched { D.tells → IsUntouched D.content D.may_leave (disk_of self.old) (disk_of self.new) }
         ensures since { D.tells → (t : ℕ) (image : List ℕ) →
@@ -257,6 +262,7 @@ impl<D: Disk> Journal<D> {
     pub fn crash(&mut self)
     where
         D: Rig,
+        ensures crashed { D.crashed (disk_of self.old) (disk_of self.new) }
         ensures stop { D.stops_in (disk_of self.new) ≡ None }
         ensures crashes { D.tells → Crashes D.content D.may_leave (disk_of self.old) (disk_of self.new) }
         ensures time { D.tells → Elapses D.moment D.may_leave D.left_since

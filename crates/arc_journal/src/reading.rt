@@ -1,6 +1,6 @@
 //! What the bytes of an image say.
 ghost use Rattle.std.specs.Prelude.{◌≡◌, ◌++◌, ◌∷◌, [], ◌+◌, ◌*◌, ◌≤◌, ◌<◌, ℕ, true, false, length, map, take, vec_len, slice_index, ◌≢◌, MatchOption, IfErr, IfOk, OnOk};
-ghost use Rattle.arc_journal.specs.Image.{AreKept, IsCausedBy, IsEntry, IsJournalOf, IsReadTo, body_in, common, entries_of, entry_fault, fault_in, first_fault, head_fault, own_fault, is_below, is_whole, slots_in};
+ghost use Rattle.arc_journal.specs.Image.{AreKept, AreWithin, IsCausedBy, IsEntry, IsJournalOf, IsReadTo, IsWithin, body_in, common, entries_of, entry_fault, fault_in, first_fault, head_fault, own_fault, is_below, is_whole, slots_in};
 ghost use Rattle.arc_journal.specs.Layout.{entries, entry_limit, head, signature};
 ghost use Rattle.arc_journal.specs.Runs.{ending_of};
 ghost use Rattle.arc_command.specs.Spelling.{record_bytes};
@@ -117,6 +117,7 @@ fn read_entry(
     ensures own { IfErr result (λ e. e ≢ JournalEnd.Disk) }
     ensures fault { IsCausedBy (ending_of result) (entry_fault max_slots count (record { place = place; bytes = bytes.now })) }
     ensures entry { IfOk result (λ r. IsEntry max_slots r.0 bytes.now) }
+    ensures within { IfOk result (λ r. IsWithin max_slots r.0) }
     ensures len { IfOk result (λ r. r.1 ≡ length (record_bytes r.0) + 36) }
     ensures room { OnOk result (count < entry_limit max_slots) }
 {
@@ -171,6 +172,7 @@ fn read_entries(
     ensures own { IfErr result (λ e. e ≢ JournalEnd.Disk) }
     ensures fault { IsCausedBy (ending_of result) (fault_in max_slots 0 (entries_of image.now)) }
     ensures read { IfOk result (λ r. IsReadTo max_slots r.0.items r.1 image.now) }
+    ensures within { IfOk result (λ r. AreWithin max_slots r.0.items) }
     ensures closed { IfOk result (λ r. slice_index image.now r.1 ≢ 1) }
 {
     let mut records = Vec::new(alloc);
@@ -207,6 +209,7 @@ pub(crate) fn read_journal(alloc: Global, image: &[u8], node: u8) -> Result<Open
     ensures own { IfErr result (λ e. e ≢ JournalEnd.Disk) }
     ensures fault { IsCausedBy (ending_of result) (first_fault node image.now) }
     ensures journal { IfOk result (λ o. IsJournalOf node o.max_slots o.records.items image.now) }
+    ensures within { IfOk result (λ o. AreWithin o.max_slots o.records.items) }
     ensures end { IfOk result (λ o. o.end ≡ 16 + length (entries (map record_bytes o.records.items))) }
 {
     let max_slots = match read_head(image, node) {
@@ -234,6 +237,7 @@ pub(crate) fn read_own(
     ensures own { IfErr result (λ e. e ≢ JournalEnd.Disk) }
     ensures fault { IsCausedBy (ending_of result) (own_fault node max_slots image.now) }
     ensures journal { IfOk result (λ o. IsJournalOf node max_slots o.records.items image.now) }
+    ensures within { IfOk result (λ o. AreWithin max_slots o.records.items) }
     ensures end { IfOk result (λ o. o.end ≡ 16 + length (entries (map record_bytes o.records.items))) }
 {
     let opening = match read_journal(alloc, image, node) {

@@ -106,6 +106,10 @@ impl Disk for Narrow {
 }
 
 impl Rig for Narrow {
+    ghost armed = { λ old calls fill new. new ≡ record old { stops = Some calls } };
+
+    ghost crashed = { λ old new. new ≡ record old { stops = None } };
+
     fn arm(&mut self, calls: u32, _fill: u8) {
         self.stops = Some(calls);
     }
