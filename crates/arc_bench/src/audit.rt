@@ -1,5 +1,6 @@
 //! The audit of five sound journals: at each slot a promise, a vote and its closing.
-ghost use Rattle.std.specs.Prelude.{◌≡◌, ◌≤◌, ◌+◌, ◌*◌, vec_len};
+ghost use Rattle.std.specs.Prelude.{◌≡◌, ◌<◌, ◌≤◌, ◌+◌, ◌*◌, ◌^◌, ℕ, vec_len};
+ghost use Rattle.arc_bytes.specs.Five.{at};
 ghost use Rattle.arc_voting.specs.Journals.{journals_of};
 ghost use Rattle.arc_voting.specs.Walk.{HaveRoom};
 
@@ -66,7 +67,7 @@ fn journal_of(alloc: Global, slots: u32) -> Vec<Record>
 /// Five such journals.
 fn five_of(alloc: Global, slots: u32) -> Five<Vec<Record>>
     requires { slots ≤ 10000 }
-    ensures { HaveRoom (journals_of result) }
+    ensures { (node : ℕ) → node < 5 → vec_len (at result node) < 2 ^ 32 }
 {
     Five {
         d0: journal_of(alloc, slots),
@@ -77,8 +78,22 @@ fn five_of(alloc: Global, slots: u32) -> Five<Vec<Record>>
     }
 }
 
+/// Lends five journals.
+fn lent(js: &Five<Vec<Record>>) -> Five<&[Record]>
+    requires { (node : ℕ) → node < 5 → vec_len (at js.now node) < 2 ^ 32 }
+    ensures { HaveRoom (journals_of result) }
+{
+    Five {
+        d0: js.d0.as_slice(),
+        d1: js.d1.as_slice(),
+        d2: js.d2.as_slice(),
+        d3: js.d3.as_slice(),
+        d4: js.d4.as_slice(),
+    }
+}
+
 /// Audits journals again and again, and tells whether they are sound.
-fn are_sound(alloc: Global, js: &Five<Vec<Record>>) -> bool
+fn are_sound(alloc: Global, js: &Five<&[Record]>) -> bool
     requires { HaveRoom (journals_of js.now) }
 {
     for _ in 0..ROUNDS {
@@ -94,7 +109,7 @@ pub fn audits(alloc: Global, slots: u32) -> usize
     requires { slots ≤ 10000 }
 {
     let js = five_of(alloc, slots);
-    if are_sound(alloc, &js) {
+    if are_sound(alloc, &lent(&js)) {
         js.d0.len()
     } else {
         0

@@ -1,5 +1,6 @@
 //! Worked journals: sound ones, and for each rule the smallest that break it alone.
-ghost use Rattle.std.specs.Prelude.{◌+◌, ◌≤◌, vec_len};
+ghost use Rattle.std.specs.Prelude.{◌+◌, ◌<◌, ◌≤◌, ℕ, vec_len};
+ghost use Rattle.arc_bytes.specs.Five.{at};
 ghost use Rattle.arc_voting.specs.Journals.{journals_of};
 ghost use Rattle.arc_voting.specs.Walk.{HaveRoom};
 
@@ -91,7 +92,7 @@ fn journal(alloc: Global, entries: &[Entry]) -> Vec<Record>
 }
 
 fn journals(alloc: Global, rows: &[&[Entry]; 5]) -> Five<Vec<Record>>
-    ensures { HaveRoom (journals_of result) }
+    ensures { (node : ℕ) → node < 5 → vec_len (at result node) ≤ LONGEST }
 {
     Five {
         d0: journal(alloc, rows[0]),
@@ -102,24 +103,50 @@ fn journals(alloc: Global, rows: &[&[Entry]; 5]) -> Five<Vec<Record>>
     }
 }
 
+/// Lends five journals.
+fn lent(js: &Five<Vec<Record>>) -> Five<&[Record]>
+    requires { (node : ℕ) → node < 5 → vec_len (at js.now node) ≤ LONGEST }
+    ensures { HaveRoom (journals_of result) }
+{
+    Five {
+        d0: js.d0.as_slice(),
+        d1: js.d1.as_slice(),
+        d2: js.d2.as_slice(),
+        d3: js.d3.as_slice(),
+        d4: js.d4.as_slice(),
+    }
+}
+
 /// The rule, node and place of the first breach that the audit finds. For want of memory it is one that there is not.
 fn breach_of(alloc: Global, rows: &[&[Entry]; 5]) -> Option<(u8, u8, u32)> {
     let js = journals(alloc, rows);
-    match audit(alloc, &js) {
+    match audit(alloc, &lent(&js)) {
         Ok(()) => None,
         Err(AuditEnd::Breach(breach)) => Some((breach.rule, breach.node, breach.place)),
         Err(AuditEnd::Memory) => Some((0, 0, 0)),
     }
 }
 
-const ROWS: [Row; 25] = [
+const ROWS: [Row; 26] = [
     // one promise is no quorum
     Row {
         journals: [VOTED, STARTED, STARTED, STARTED, STARTED],
         breach: Some((3, 0, 2)),
     },
+    // three are; and the promises of ballot 5 told no vote, but node 0 has one in it, behind its own
     Row {
         journals: [VOTED, PROMISED, PROMISED, STARTED, STARTED],
+        breach: None,
+    },
+    // nodes 0, 1 and 3 promised ballot 11, and told a vote for C in ballot 12 beside node 1's for D in 11
+    Row {
+        journals: [
+            &[Open(1), Vote(0, 12, C), Promise(0, 11)],
+            &[Open(1), Vote(0, 11, D), Promise(0, 11)],
+            &[Open(1), Promise(0, 12), Vote(0, 12, C)],
+            &[Open(1), Promise(0, 11), Promise(0, 12)],
+            &[Open(1), Promise(0, 12)],
+        ],
         breach: None,
     },
     // node 0 owns ballot 5, and voted for another command in it
@@ -368,7 +395,7 @@ const CHOSEN: [([&[Entry]; 5], u32, Name, bool); 4] = [
 fn choose(alloc: Global, rows: &[&[Entry]; 5], slot: u32, name: Name) -> bool {
     let js = journals(alloc, rows);
     let command = command(name);
-    let is_chosen = chosen(&js, slot, &command);
+    let is_chosen = chosen(&lent(&js), slot, &command);
     drop(command);
     is_chosen
 }

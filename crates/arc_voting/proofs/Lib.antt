@@ -31,3 +31,6 @@ pub mod Answering
 pub mod Bounding
 pub mod Owning
 pub mod Longest
+pub mod InPlace
+pub mod Behind
+pub mod Places

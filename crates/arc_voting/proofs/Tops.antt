@@ -66,7 +66,7 @@ hold_case slot s b c xs v true is rest held =
     ]
 hold_case slot s b c xs v false is rest held = contains_tail (Voted s b c) xs (Voted slot v.0 v.1) (rest held)
 
-votes_hold : (slot : ℕ) (xs : List Record) (v : ℕ × Command) → Contains (votes_at slot xs) v → HoldsVote xs slot v.0 v.1
+pub votes_hold : (slot : ℕ) (xs : List Record) (v : ℕ × Command) → Contains (votes_at slot xs) v → HoldsVote xs slot v.0 v.1
 votes_hold slot [] v held = absurd (omega (arith, held.1))
 votes_hold slot (Opened inc ∷ xs) v held = contains_tail (Opened inc) xs (Voted slot v.0 v.1) (votes_hold slot xs v held)
 votes_hold slot (Promised from ballot ∷ xs) v held =

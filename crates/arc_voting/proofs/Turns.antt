@@ -25,13 +25,13 @@ option_cases (Some c) = inr (c, refl)
 never : (o : Option Record) (entry : Record) → o ≡ None → o ≡ Some entry → ⊥
 never o entry none some = cc
 
-there : (xs : List Command) (slot : ℕ) → slice_get xs slot ≡ None → slot < length xs → ⊥
+there : {X : Type 0} (xs : List X) (slot : ℕ) → slice_get xs slot ≡ None → slot < length xs → ⊥
 there [] slot none lt = absurd (omega arith)
 there (x ∷ xs) slot none lt =
     let some : slice_get (x ∷ xs) slot ≡ Some (get_or (x ∷ xs) slot x) = slice_get-get_or (x ∷ xs) slot x lt in cc
 
--- past the applied list there is nothing
-pub past_end : (xs : List Command) (slot : ℕ) → slice_get xs slot ≡ None → length xs ≤ slot
+-- where a list has nothing it has ended
+pub past_end : {X : Type 0} (xs : List X) (slot : ℕ) → slice_get xs slot ≡ None → length xs ≤ slot
 past_end xs slot none =
     elim (cases_lt slot (length xs)) [
       | inl inside ↦ absurd (there xs slot none inside)

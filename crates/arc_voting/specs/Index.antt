@@ -55,7 +55,3 @@ IsKnown js index (Closed slot c) = IsKnownClosed index slot c
 -- It says so of every entry.
 abbrev pub AreKnown : Journals → Five (BTreeMap ℕ Begun) → Type 0
 AreKnown js index = (node : ℕ) → node < 5 → All (IsKnown js index) (js node)
-
--- Some index says so of every entry.
-abbrev pub AreIndexed : Journals → Type 0
-AreIndexed js = (index : Five (BTreeMap ℕ Begun)) × AreKnown js index

@@ -1,7 +1,7 @@
 -- Five journals, and what is counted in them.
 use Rattle.std.specs.Prelude.{ℕ, ◌+◌, ◌<◌, Bool, true, false, if◌then◌else◌, nat_eq, List, [], ◌∷◌, ◌++◌, count_by}
 use Rattle.std.specs.List.{fold}
-use Rattle.std.specs.Global.{Vec}
+use Rattle.std.specs.Borrow.{Bor}
 use Rattle.arc_bytes.specs.Five.{at}
 use Rattle.arc_bytes.specs.declared.five.Five.{Five}
 use Rattle.arc_data.specs.declared.record.Record.{Record}
@@ -11,9 +11,9 @@ use Rattle.arc_data.specs.declared.record.Record.TheVariants.{Opened, Promised, 
 abbrev pub Journals : Type 0
 Journals = ℕ → List Record
 
--- What five lists in memory hold.
-abbrev pub journals_of : Five (Vec Record) → Journals
-journals_of five node = (at five node).items
+-- What five borrowed lists hold.
+abbrev pub journals_of : Five (Bor (List Record)) → Journals
+journals_of five node = (at five node).now
 
 -- The journals, with one entry more in that of this node.
 abbrev pub with_entry : Journals → ℕ → Record → Journals

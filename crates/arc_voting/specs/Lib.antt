@@ -11,6 +11,8 @@ pub mod Walk
 pub mod Tracks
 pub mod Index
 pub mod Turn
+pub mod Tails
+pub mod Indexed
 pub mod Lawful
 pub mod Laws
 pub mod Handled

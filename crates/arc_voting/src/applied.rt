@@ -7,7 +7,7 @@ ghost use Rattle.arc_voting.specs.Lists.{applied, closed_by};
 use arc_data::{Command, Record};
 
 /// The command that this entry closes a slot with.
-fn closed_command(entry: &Record) -> Option<&Command>
+pub(crate) fn closed_command(entry: &Record) -> Option<&Command>
     ensures { option_copied result ≡ closed_by entry.now }
 {
     match entry {

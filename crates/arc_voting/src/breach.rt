@@ -1,4 +1,8 @@
 //! How an audit ends that finds no sound journals.
+ghost use Rattle.std.specs.Prelude.{◌≡◌, ◌<◌, ◌^◌};
+ghost use Rattle.arc_voting.specs.Rules.{number_of};
+
+use crate::Rule;
 
 /// The first entry that breaks a rule, in the order of rule, node and place.
 #[derive(Clone, Copy, Debug, Drop)]
@@ -11,11 +15,27 @@ pub struct Breach {
     pub place: u32,
 }
 
+impl Breach {
+    /// The breach of this rule at this node and place.
+    pub(crate) fn of(rule: Rule, node: u8, place: usize) -> Breach
+        requires { place < 2 ^ 32 }
+        ensures rule { result.rule ≡ number_of rule }
+        ensures node { result.node ≡ node }
+        ensures place { result.place ≡ place }
+    {
+        Breach {
+            rule: rule.number(),
+            node,
+            place: place as u32,
+        }
+    }
+}
+
 /// Why an audit doesn't answer that the journals are sound.
 #[derive(Clone, Copy, Debug, Drop)]
 pub enum AuditEnd {
     /// They aren't: this is the first breach.
     Breach(Breach),
-    /// There wasn't enough memory to tell.
+    /// There wasn't enough memory to tell. Every journal is well-formed.
     Memory,
 }

@@ -1,13 +1,14 @@
-//! Well-formed journals.
+//! Well-formed journals, and the first breach of that.
 ghost use Rattle.std.specs.Prelude.{◌≡◌, ◌≢◌, ◌↔◌, ◌<◌, ◌≤◌, ◌+◌, ◌*◌, ◌^◌, ℕ, IsTrue, [], length, take};
 ghost use Rattle.std.specs.List.{slice_get};
 ghost use Rattle.arc_voting.specs.Journals.{journals_of, is_promised, promised_count, promises_of};
 ghost use Rattle.arc_voting.specs.Formed.{IsBallot, IsPromise, IsVote};
 ghost use Rattle.arc_data.specs.Entries.{closed_len};
 ghost use Rattle.arc_voting.specs.Sound.{IsWellFormedIn};
-ghost use Rattle.arc_voting.specs.Walk.{Describes, IsFirstIn, HaveRoom, IsFitBehind};
+ghost use Rattle.arc_voting.specs.Walk.{Describes, IsFirstIn, IsFirstUnder, HaveRoom, IsFitBehind};
 
 use crate::entries::is_one_command;
+use crate::{Breach, Rule};
 use arc_bytes::Five;
 use arc_data::{Command, Record};
 
@@ -174,21 +175,21 @@ fn promises_in(journal: &[Record]) -> usize
 }
 
 /// How many promises the five journals hold.
-pub fn count_promises(journals: &Five<Vec<Record>>) -> u64
+pub fn count_promises(journals: &Five<&[Record]>) -> u64
     requires { HaveRoom (journals_of journals.now) }
     ensures counted { result ≡ promises_of (journals_of journals.now) }
     ensures room { result < 2 ^ 40 }
 {
-    let first = promises_in(journals.d0.as_slice());
-    let second = promises_in(journals.d1.as_slice());
-    let third = promises_in(journals.d2.as_slice());
-    let fourth = promises_in(journals.d3.as_slice());
-    let fifth = promises_in(journals.d4.as_slice());
+    let first = promises_in(journals.d0);
+    let second = promises_in(journals.d1);
+    let third = promises_in(journals.d2);
+    let fourth = promises_in(journals.d3);
+    let fifth = promises_in(journals.d4);
     (first + second + third + fourth + fifth) as u64
 }
 
 /// The first place of a journal at which it isn't well-formed, where five journals have so many promises.
-pub fn first_unfit(journal: &[Record], promises: u64) -> Option<usize>
+fn first_unfit(journal: &[Record], promises: u64) -> Option<usize>
     requires { promises < 2 ^ 40 }
     ensures { IsFirstIn (IsWellFormedIn promises journal.now) result }
 {
@@ -201,6 +202,21 @@ pub fn first_unfit(journal: &[Record], promises: u64) -> Option<usize>
             return Some(place);
         }
         seen.note(journal, place, promises);
+    }
+    None
+}
+
+/// The first entry at which a journal isn't well-formed, by node and then place.
+pub fn first_unfit_breach(journals: &Five<&[Record]>, promises: u64) -> Option<Breach>
+    requires fits { HaveRoom (journals_of journals.now) }
+    requires counted { promises ≡ promises_of (journals_of journals.now) }
+    requires room { promises < 2 ^ 40 }
+    ensures { IsFirstUnder (journals_of journals.now) Rule.V1 result }
+{
+    for node in 0..5 {
+        if let Some(place) = first_unfit(journals.get(node), promises) {
+            return Some(Breach::of(Rule::V1, node, place));
+        }
     }
     None
 }

@@ -9,7 +9,7 @@ ghost use Rattle.arc_voting.specs.Parts.{IsNoneChosenBelow, HasNoChosenBelow};
 
 use crate::entries::{has_no_double, votes_for};
 use crate::majority::{each_of_five, is_voted_by_three};
-use crate::track::{Track, slot_at};
+use crate::tracks::Tracks;
 use arc_bytes::Five;
 use arc_data::{Command, Equals, Record};
 
@@ -28,19 +28,19 @@ fn votes_since(journal: &[Record], inc: u32, command: &Command) -> bool
 }
 
 /// Whether a command starts at the node of its id.
-pub fn starts_at_its_node(journals: &Five<Vec<Record>>, command: &Command) -> bool
+pub fn starts_at_its_node(journals: &Five<&[Record]>, command: &Command) -> bool
     ensures { IsTrue result ↔ StartsAtItsNode (journals_of journals.now) command.now }
 {
     let id = command.id;
     if 5 <= id.node {
         return false;
     }
-    votes_since(journals.get(id.node).as_slice(), id.inc, command)
+    votes_since(journals.get(id.node), id.inc, command)
 }
 
 /// Whether no vote before this place has the command's id and is for another one.
 pub fn has_no_earlier_double(
-    journals: &Five<Vec<Record>>,
+    journals: &Five<&[Record]>,
     node: u8,
     place: usize,
     command: &Command,
@@ -50,7 +50,7 @@ pub fn has_no_earlier_double(
     ensures { IsTrue result ↔ HasNoEarlierDouble (journals_of journals.now) node place command.now }
 {
     for former in 0..node {
-        if !has_no_double(journals.get(former).as_slice(), command) {
+        if !has_no_double(journals.get(former), command) {
             return false;
         }
     }
@@ -60,8 +60,8 @@ pub fn has_no_earlier_double(
 /// Whether this entry isn't a vote, in a slot below this one and with the command's id, that has three of its kind.
 #[tactic(auto, unfolding(crate::specs::Parts::IsNoneChosenBelow))]
 fn is_no_chosen_below(
-    journals: &Five<Vec<Record>>,
-    tracks: &Five<Track>,
+    journals: &Five<&[Record]>,
+    tracks: &Tracks,
     entry: &Record,
     slot: u32,
     command: &Command,
@@ -78,7 +78,7 @@ fn is_no_chosen_below(
             if slot <= *lower || !its_command.id.equals(&command.id) {
                 return true;
             }
-            !is_voted_by_three(journals, &slot_at(tracks, *lower), *ballot, its_command)
+            !is_voted_by_three(journals, &tracks.slot_at(*lower), *ballot, its_command)
         }
         _ => true,
     }
@@ -86,8 +86,8 @@ fn is_no_chosen_below(
 
 /// Whether no vote of this node, in a slot below this one and with the command's id, has three of its kind.
 fn has_no_chosen_below(
-    journals: &Five<Vec<Record>>,
-    tracks: &Five<Track>,
+    journals: &Five<&[Record]>,
+    tracks: &Tracks,
     node: u8,
     slot: u32,
     command: &Command,
@@ -104,8 +104,8 @@ fn has_no_chosen_below(
 
 /// Whether no command with this command's id is chosen in a slot below this one.
 pub fn is_not_chosen_below(
-    journals: &Five<Vec<Record>>,
-    tracks: &Five<Track>,
+    journals: &Five<&[Record]>,
+    tracks: &Tracks,
     slot: u32,
     command: &Command,
 ) -> bool

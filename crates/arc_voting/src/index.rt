@@ -6,7 +6,7 @@
 ghost use Rattle.std.specs.Prelude.{◌≡◌, ◌↔◌, ◌<◌, ◌≤◌, ℕ, IsTrue, IfSome, Some, All};
 ghost use Rattle.std.specs.List.{slice_get};
 ghost use Rattle.arc_data.specs.declared.record.Record.TheVariants.{Opened};
-ghost use Rattle.arc_voting.specs.Index.{number_of_id, begun_in, IsVoteAt, BeganAt, IsKnown, IsKnownVote, IsKnownClosed, AreKnown, AreIndexed};
+ghost use Rattle.arc_voting.specs.Index.{number_of_id, begun_in, IsVoteAt, BeganAt, IsKnown, IsKnownVote, IsKnownClosed, AreKnown};
 ghost use Rattle.arc_voting.specs.Journals.{journals_of};
 
 use crate::entries::is_vote_for;
@@ -78,7 +78,7 @@ fn began_at(journal: &[Record], command: &Command, begun: Begun) -> bool
 }
 
 /// Whether the index says rightly where a vote's command begins, and no slot below the vote's.
-fn is_known_vote(journals: &Five<Vec<Record>>, index: &Index, slot: u32, command: &Command) -> bool
+fn is_known_vote(journals: &Five<&[Record]>, index: &Index, slot: u32, command: &Command) -> bool
     ensures { IsTrue result → IsKnownVote (journals_of journals.now) index.now slot command.now }
 {
     let id = command.id;
@@ -88,7 +88,7 @@ fn is_known_vote(journals: &Five<Vec<Record>>, index: &Index, slot: u32, command
     match begun_in(index, id) {
         Some(begun) => {
             is_not_closed_below(begun.closed, slot)
-                && began_at(journals.get(id.node).as_slice(), command, begun)
+                && began_at(journals.get(id.node), command, begun)
         }
         None => false,
     }
@@ -130,7 +130,7 @@ fn closes(closed: Option<u32>, slot: u32) -> bool
 
 /// Whether the index says what is needed of this entry.
 #[tactic(auto, unfolding(crate::specs::Index::IsKnown))]
-fn is_known(journals: &Five<Vec<Record>>, index: &Index, entry: &Record) -> bool
+fn is_known(journals: &Five<&[Record]>, index: &Index, entry: &Record) -> bool
     ensures { IsTrue result → IsKnown (journals_of journals.now) index.now entry.now }
 {
     match entry {
@@ -142,7 +142,7 @@ fn is_known(journals: &Five<Vec<Record>>, index: &Index, entry: &Record) -> bool
 }
 
 /// Whether the index says what is needed of each of these entries.
-fn are_known(journals: &Five<Vec<Record>>, index: &Index, entries: &[Record]) -> bool
+fn are_known(journals: &Five<&[Record]>, index: &Index, entries: &[Record]) -> bool
     ensures { IsTrue result → All (λ entry. IsKnown (journals_of journals.now) index.now entry) entries.now }
 {
     for entry in entries {
@@ -154,11 +154,11 @@ fn are_known(journals: &Five<Vec<Record>>, index: &Index, entries: &[Record]) ->
 }
 
 /// Whether the index says what is needed of each entry of the five journals.
-fn all_are_known(journals: &Five<Vec<Record>>, index: &Index) -> bool
+pub fn all_are_known(journals: &Five<&[Record]>, index: &Index) -> bool
     ensures { IsTrue result → AreKnown (journals_of journals.now) index.now }
 {
     for node in 0..5 {
-        if !are_known(journals, index, journals.get(node).as_slice()) {
+        if !are_known(journals, index, journals.get(node)) {
             return false;
         }
     }
@@ -230,20 +230,20 @@ fn note_closed(begun: &mut BTreeMap<u64, Begun>, journal: &[Record], node: u8) {
 /// What the journals say of the commands of one node.
 fn begun_by(
     alloc: Global,
-    journals: &Five<Vec<Record>>,
+    journals: &Five<&[Record]>,
     node: u8,
 ) -> Result<BTreeMap<u64, Begun>, AllocError>
     requires { node < 5 }
 {
-    let mut begun = votes_of(alloc, journals.get(node).as_slice(), node)?;
+    let mut begun = votes_of(alloc, journals.get(node), node)?;
     for other in 0..5 {
-        note_closed(&mut begun, journals.get(other).as_slice(), node);
+        note_closed(&mut begun, journals.get(other), node);
     }
     Ok(begun)
 }
 
 /// The index of five journals.
-fn index_of(alloc: Global, journals: &Five<Vec<Record>>) -> Result<Index, AllocError> {
+pub fn index_of(alloc: Global, journals: &Five<&[Record]>) -> Result<Index, AllocError> {
     Ok(Five {
         d0: begun_by(alloc, journals, 0)?,
         d1: begun_by(alloc, journals, 1)?,
@@ -251,15 +251,4 @@ fn index_of(alloc: Global, journals: &Five<Vec<Record>>) -> Result<Index, AllocE
         d3: begun_by(alloc, journals, 3)?,
         d4: begun_by(alloc, journals, 4)?,
     })
-}
-
-/// Whether an index of the five journals says what is needed of each of their entries. Where memory is wanting it isn't
-/// tried.
-pub fn are_indexed(alloc: Global, journals: &Five<Vec<Record>>) -> bool
-    ensures { IsTrue result → AreIndexed (journals_of journals.now) }
-{
-    match index_of(alloc, journals) {
-        Ok(index) => all_are_known(journals, &index),
-        Err(AllocError) => false,
-    }
 }

@@ -10,6 +10,7 @@ ghost use Rattle.arc_voting.specs.Bounds.{PromisesAreBounded, LeastBallotIsLawfu
 ghost use Rattle.arc_voting.specs.Owning.{VotedIsAlone, AloneStays, UnappliedMayBegin, DrawnMayBegin, ProposalMayBegin};
 ghost use Rattle.arc_voting.specs.Handled.{LawfulMailKeepsSound, HistoriesOnlyGrow, FrontsAreHandled};
 ghost use Rattle.arc_voting.specs.Proposal.{ProposalKeepsSound, StandingVoteIsTheProposal};
+ghost use Rattle.arc_voting.specs.Tails.{TopVoteIsInTail, VoteIsInTail, NoVotesAreInPlace, TurnsKeepVotesInPlace, StartsKeepVotesInPlace, FrontsKeepVotesInPlace, SoundVotesAreInPlace};
 
 /// Two commands that are chosen at one slot of sound journals are equal.
 pub fn chosen_are_equal()
@@ -130,4 +131,17 @@ pub fn longest_list_only_grows()
     ensures begins { EachBeginsTheLongest }
     ensures chosen { LongestAreChosen }
     ensures grows { LongestOnlyGrows }
+{}
+
+/// A list in which each vote stands at the slot that was open when it was given stays so, whatever message a node handles
+/// and however often it starts; each front of it is such a list, and each of sound journals is. In it the votes at the open
+/// slot stand behind the last entry that closes one.
+pub fn votes_stay_in_place()
+    ensures top { TopVoteIsInTail }
+    ensures vote { VoteIsInTail }
+    ensures none { NoVotesAreInPlace }
+    ensures turns { TurnsKeepVotesInPlace }
+    ensures starts { StartsKeepVotesInPlace }
+    ensures fronts { FrontsKeepVotesInPlace }
+    ensures sound { SoundVotesAreInPlace }
 {}

@@ -50,7 +50,7 @@ pub fn some_of_five(holds: &Five<bool>) -> bool
 
 /// Whether at least three journals hold this vote.
 pub fn is_voted_by_three(
-    journals: &Five<Vec<Record>>,
+    journals: &Five<&[Record]>,
     slot: &Slot,
     ballot: u64,
     command: &Command,
@@ -69,7 +69,7 @@ pub fn is_voted_by_three(
 }
 
 /// Whether at least three journals settle this ballot for the command.
-pub fn is_settled(journals: &Five<Vec<Record>>, slot: &Slot, ballot: u64, command: &Command) -> bool
+pub fn is_settled(journals: &Five<&[Record]>, slot: &Slot, ballot: u64, command: &Command) -> bool
     requires { Shows (journals_of journals.now) slot.now }
     ensures { IsTrue result ↔ IsSettled (journals_of journals.now) slot.now.number ballot command.now }
 {
@@ -85,7 +85,7 @@ pub fn is_settled(journals: &Five<Vec<Record>>, slot: &Slot, ballot: u64, comman
 
 /// Whether this entry is a vote at the slot, of a ballot in which three vote for the command.
 fn is_chosen_with(
-    journals: &Five<Vec<Record>>,
+    journals: &Five<&[Record]>,
     slot: &Slot,
     entry: &Record,
     command: &Command,
@@ -110,7 +110,7 @@ fn is_chosen_with(
 }
 
 /// Whether a vote of this node at the slot is of a ballot in which three vote for the command.
-fn is_chosen_by(journals: &Five<Vec<Record>>, slot: &Slot, node: u8, command: &Command) -> bool
+fn is_chosen_by(journals: &Five<&[Record]>, slot: &Slot, node: u8, command: &Command) -> bool
     requires of_five { node < 5 }
     requires shown { Shows (journals_of journals.now) slot.now }
     ensures { IsTrue result ↔ ChoosesAmong (journals_of journals.now)
@@ -122,7 +122,7 @@ fn is_chosen_by(journals: &Five<Vec<Record>>, slot: &Slot, node: u8, command: &C
 }
 
 /// Whether a command is chosen at the slot.
-pub fn is_chosen(journals: &Five<Vec<Record>>, slot: &Slot, command: &Command) -> bool
+pub fn is_chosen(journals: &Five<&[Record]>, slot: &Slot, command: &Command) -> bool
     requires { Shows (journals_of journals.now) slot.now }
     ensures { IsTrue result ↔ IsChosen (journals_of journals.now) slot.now.number command.now }
 {
@@ -136,7 +136,7 @@ pub fn is_chosen(journals: &Five<Vec<Record>>, slot: &Slot, command: &Command) -
 }
 
 /// Whether this command is chosen at this slot: for some ballot at least three of the five journals hold that vote.
-pub fn chosen(js: &Five<Vec<Record>>, slot: u32, c: &Command) -> bool
+pub fn chosen(js: &Five<&[Record]>, slot: u32, c: &Command) -> bool
     ensures { IsTrue result ↔ IsChosen (journals_of js.now) slot c.now }
 {
     is_chosen(js, &whole_slot(js, slot), c)

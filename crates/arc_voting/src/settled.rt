@@ -17,7 +17,7 @@ use arc_data::{Command, Record};
 /// Whether this entry is no vote at the slot, below the ballot, that isn't settled for the command.
 #[tactic(auto, unfolding(crate::specs::Parts::IsSettledBelow))]
 fn is_settled_entry(
-    journals: &Five<Vec<Record>>,
+    journals: &Five<&[Record]>,
     slot: &Slot,
     entry: &Record,
     ballot: u64,
@@ -44,7 +44,7 @@ fn is_settled_entry(
 
 /// Whether each ballot of the votes at the slot among these entries, below the given one, is settled for the command.
 fn are_settled(
-    journals: &Five<Vec<Record>>,
+    journals: &Five<&[Record]>,
     slot: &Slot,
     entries: &[Record],
     ballot: u64,
@@ -59,7 +59,7 @@ fn are_settled(
 
 /// Whether each ballot at which this node votes, below the given one, is settled for the command.
 fn its_votes_are_settled(
-    journals: &Five<Vec<Record>>,
+    journals: &Five<&[Record]>,
     slot: &Slot,
     node: u8,
     ballot: u64,
@@ -80,7 +80,7 @@ fn its_votes_are_settled(
 }
 
 /// Whether some node votes at this ballot.
-fn some_votes(journals: &Five<Vec<Record>>, slot: &Slot, ballot: u64) -> bool
+fn some_votes(journals: &Five<&[Record]>, slot: &Slot, ballot: u64) -> bool
     requires { Shows (journals_of journals.now) slot.now }
     ensures { IsTrue result ↔ SomeVotesAt (journals_of journals.now) slot.now.number ballot }
 {
@@ -94,7 +94,7 @@ fn some_votes(journals: &Five<Vec<Record>>, slot: &Slot, ballot: u64) -> bool
 }
 
 /// The greatest ballot below this one at which no node votes, or 0.
-fn free_below(journals: &Five<Vec<Record>>, slot: &Slot, ballot: u64) -> u64
+fn free_below(journals: &Five<&[Record]>, slot: &Slot, ballot: u64) -> u64
     requires { Shows (journals_of journals.now) slot.now }
     ensures below { result ≤ ballot - 1 }
     ensures free { 1 ≤ result → NoneVotesAt (journals_of journals.now) slot.now.number result }
@@ -110,7 +110,7 @@ fn free_below(journals: &Five<Vec<Record>>, slot: &Slot, ballot: u64) -> u64
 
 /// Whether each ballot at which some node votes, below the given one, is settled for the command.
 fn voted_are_settled(
-    journals: &Five<Vec<Record>>,
+    journals: &Five<&[Record]>,
     slot: &Slot,
     ballot: u64,
     command: &Command,
@@ -131,7 +131,7 @@ fn voted_are_settled(
 
 /// Whether every ballot below this one is settled at the slot for the command.
 pub fn lower_are_settled(
-    journals: &Five<Vec<Record>>,
+    journals: &Five<&[Record]>,
     slot: &Slot,
     ballot: u64,
     command: &Command,

@@ -29,7 +29,7 @@ pub struct Slot {
 }
 
 /// The entries of a node's journal among which its votes at the slot stand.
-pub fn entries_of<'a>(journals: &'a Five<Vec<Record>>, slot: &Slot, node: u8) -> &'a [Record]
+pub fn entries_of<'a>(journals: &Five<&'a [Record]>, slot: &Slot, node: u8) -> &'a [Record]
     requires of_five { node < 5 }
     requires shown { Shows (journals_of journals.now) slot.now }
     ensures { result.now ≡ part_of (journals_of journals.now node) (at slot.now.parts node) }
@@ -40,7 +40,7 @@ pub fn entries_of<'a>(journals: &'a Five<Vec<Record>>, slot: &Slot, node: u8) ->
 
 /// Whether a node's journal holds this vote.
 pub fn node_voted(
-    journals: &Five<Vec<Record>>,
+    journals: &Five<&[Record]>,
     slot: &Slot,
     node: u8,
     ballot: u64,
@@ -59,7 +59,7 @@ pub fn node_voted(
 }
 
 /// Whether a node's journal holds some vote at this ballot.
-pub fn node_voted_at(journals: &Five<Vec<Record>>, slot: &Slot, node: u8, ballot: u64) -> bool
+pub fn node_voted_at(journals: &Five<&[Record]>, slot: &Slot, node: u8, ballot: u64) -> bool
     requires of_five { node < 5 }
     requires shown { Shows (journals_of journals.now) slot.now }
     ensures { IsTrue result ↔ VotesAt (journals_of journals.now node) slot.now.number ballot }
@@ -69,7 +69,7 @@ pub fn node_voted_at(journals: &Five<Vec<Record>>, slot: &Slot, node: u8, ballot
 
 /// Whether a node's journal settles this ballot for the command: it voted so, or didn't vote there and never will.
 pub fn node_settles(
-    journals: &Five<Vec<Record>>,
+    journals: &Five<&[Record]>,
     slot: &Slot,
     node: u8,
     ballot: u64,
@@ -115,16 +115,16 @@ fn reach_of(journal: &[Record], slot: u32) -> u64
 }
 
 /// One slot, looked for in the whole journals.
-pub fn whole_slot(journals: &Five<Vec<Record>>, number: u32) -> Slot
+pub fn whole_slot(journals: &Five<&[Record]>, number: u32) -> Slot
     ensures number { result.number ≡ number }
     ensures shown { Shows (journals_of journals.now) result }
 {
     let parts = Five {
-        d0: whole_part(journals.d0.as_slice(), number),
-        d1: whole_part(journals.d1.as_slice(), number),
-        d2: whole_part(journals.d2.as_slice(), number),
-        d3: whole_part(journals.d3.as_slice(), number),
-        d4: whole_part(journals.d4.as_slice(), number),
+        d0: whole_part(journals.d0, number),
+        d1: whole_part(journals.d1, number),
+        d2: whole_part(journals.d2, number),
+        d3: whole_part(journals.d3, number),
+        d4: whole_part(journals.d4, number),
     };
     Slot { number, parts }
 }

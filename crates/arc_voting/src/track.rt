@@ -1,13 +1,8 @@
 //! Where the votes of each slot stand in a journal.
-ghost use Rattle.std.specs.Prelude.{◌≡◌, ◌<◌, ℕ, List, IfOk};
-ghost use Rattle.arc_bytes.specs.Five.{at};
-ghost use Rattle.arc_voting.specs.Journals.{journals_of};
-ghost use Rattle.arc_voting.specs.Parts.{Shows};
-ghost use Rattle.arc_voting.specs.Tracks.{IsWellFormedWhole, AreWellFormed, IsTrackOf, AreTracksOf, ShowsOf};
-ghost use Rattle.arc_data.specs.declared.record.Record.{Record};
+ghost use Rattle.std.specs.Prelude.{IfOk};
+ghost use Rattle.arc_voting.specs.Tracks.{IsWellFormedWhole, IsTrackOf, ShowsOf};
 
-use crate::slot::{Part, Slot};
-use arc_bytes::Five;
+use crate::slot::Part;
 use arc_data::Record;
 use std::alloc::{AllocError, Global};
 
@@ -55,7 +50,7 @@ pub fn track_of(alloc: Global, journal: &[Record], promises: u64) -> Result<Trac
 
 impl Track {
     /// The part of a slot.
-    fn part(&self, slot: u32) -> Part
+    pub fn part(&self, slot: u32) -> Part
         ensures { ShowsOf self.now slot result }
     {
         let parts = self.parts.as_slice();
@@ -65,37 +60,4 @@ impl Track {
         }
         self.beyond
     }
-}
-
-/// The parts of five well-formed journals.
-pub fn tracks_of(
-    alloc: Global,
-    journals: &Five<Vec<Record>>,
-    promises: u64,
-) -> Result<Five<Track>, AllocError>
-    requires { AreWellFormed promises (journals_of journals.now) }
-    ensures { IfOk result (λ tracks. AreTracksOf tracks (journals_of journals.now)) }
-{
-    Ok(Five {
-        d0: track_of(alloc, journals.d0.as_slice(), promises)?,
-        d1: track_of(alloc, journals.d1.as_slice(), promises)?,
-        d2: track_of(alloc, journals.d2.as_slice(), promises)?,
-        d3: track_of(alloc, journals.d3.as_slice(), promises)?,
-        d4: track_of(alloc, journals.d4.as_slice(), promises)?,
-    })
-}
-
-/// One slot of five journals.
-pub fn slot_at(tracks: &Five<Track>, number: u32) -> Slot
-    ensures number { result.number ≡ number }
-    ensures shown { (js : ℕ → List Record) → AreTracksOf tracks.now js → Shows js result }
-{
-    let parts = Five {
-        d0: tracks.d0.part(number),
-        d1: tracks.d1.part(number),
-        d2: tracks.d2.part(number),
-        d3: tracks.d3.part(number),
-        d4: tracks.d4.part(number),
-    };
-    Slot { number, parts }
 }
