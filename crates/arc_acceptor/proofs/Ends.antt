@@ -1,5 +1,6 @@
 -- The end of the list that a node has applied.
-use Rattle.std.proofs.Common.{◌≡◌, ◌≤◌, ◌<◌, ◌+◌, ℕ, List, [], ◌∷◌, Some, None, length, refl, arith, ⊎_elim, cond, nat_lt, if◌then◌else◌}
+use Rattle.std.proofs.Common.{◌≡◌, ◌≤◌, ◌<◌, ◌+◌, ℕ, List, [], ◌∷◌, Option, Some, None, length, refl, arith, ⊎_elim, cond, nat_lt, if◌then◌else◌}
+use Rattle.std.proofs.lemmas.Bool.{cases_lt}
 use Rattle.std.proofs.lemmas.Bool.Decides.{nat_tests}
 use Rattle.std.specs.List.{slice_get}
 use Rattle.std.proofs.lemmas.List.Sums.{sum_by-cons}
@@ -23,6 +24,9 @@ length-applied (Closed slot c ∷ rs) =
     let one : closed_len (Closed slot c ∷ rs) ≡ 1 + closed_len rs = sum_by-cons (λ r. cond (is_closed r) 1 0) (Closed slot c) rs in
     omega (arith, one, length-applied rs)
 
+missing : (found : Option Command) (c : Command) → found ≡ None → found ≡ Some c → ⊥
+missing found c none some = cc
+
 -- below the end there is a command
 pub below_the_end : (rs : List Record) (slot : ℕ) → slot < closed_len rs → (c : Command) × (slice_get (applied rs) slot ≡ Some c)
 below_the_end rs slot below =
@@ -31,6 +35,12 @@ below_the_end rs slot below =
 -- and from the end on there is none
 pub from_the_end : (rs : List Record) (slot : ℕ) → closed_len rs ≤ slot → slice_get (applied rs) slot ≡ None
 from_the_end rs slot from = slice_get_past (applied rs) slot (omega (arith, from, length-applied rs))
+
+-- where there is none, up to the end, is the end
+pub ended : (rs : List Record) (slot : ℕ) → slice_get (applied rs) slot ≡ None → slot ≤ closed_len rs → slot ≡ closed_len rs
+ended rs slot none low =
+    ⊎_elim (λ below. (let there = below_the_end rs slot below in absurd (missing (slice_get (applied rs) slot) there.0 none there.1)))
+    (λ from. omega (arith, low, from)) (cases_lt slot (closed_len rs))
 
 -- a turn below the end
 pub ends_below : (rs : List Record) (slot : ℕ) (turn here : Turn) → slot < closed_len rs → at_the_end rs slot (λ c. turn) here ≡ turn

@@ -7,13 +7,18 @@
 //! ballot takes part in no lower one, and a promise tells the vote of highest ballot. A slot is closed once, and only at
 //! the end of the list.
 //!
+//! An answer takes no more than the tail of the entries, where each vote stands at the slot that was open when it was given
+//! (`answer_tail`); for other entries it looks through all of them (`answer`). It asks for memory only to copy a command.
+//!
 //! What the caller owes: fewer than 2^32 entries, and a slot below 2^32 - 1 in what is to be learned.
 #![tactic(auto)]
 
+mod laws;
 mod progress;
 mod table;
 mod turned;
 
+pub use laws::each_message_has_one_turn;
 pub use progress::Progress;
-pub use table::{answer, answer_at};
+pub use table::{answer, answer_at, answer_tail};
 pub use turned::Turned;

@@ -1,24 +1,29 @@
 //! The table of messages and answers.
-ghost use Rattle.std.specs.Prelude.{◌≡◌, ◌↔◌, ◌≤◌, ◌<◌, ◌+◌, ◌^◌, IsTrue, List, Some, IfOk, length, true, false};
+ghost use Rattle.std.specs.Prelude.{◌≡◌, ◌↔◌, ◌<◌, ◌+◌, ◌^◌, Bool, IsTrue, IsSome, List, IfOk, OnErr, length, false};
 ghost use Rattle.std.specs.List.{slice_get};
+ghost use Rattle.std.specs.Option.{option_copied};
 ghost use Rattle.arc_data.specs.Entries.{closed_len, promise, told, top_vote};
 ghost use Rattle.arc_data.specs.declared.record.Record.{Record};
 ghost use Rattle.arc_voting.specs.Chosen.{HoldsVote};
-ghost use Rattle.arc_voting.specs.Turn.{IsTurn, answers_only, appends, promise_turn, turn_of, vote_turn};
-ghost use Rattle.arc_acceptor.specs.Answering.{IsLearnable, progress_of, turn_in};
+ghost use Rattle.arc_voting.specs.Lists.{applied};
+ghost use Rattle.arc_voting.specs.Replies.{slot_of};
+ghost use Rattle.arc_voting.specs.Tails.{VotesAreInPlace, tail_of};
+ghost use Rattle.arc_voting.specs.Turn.{Turn, IsTurn, answers_only, promise_turn, turn_of, vote_turn};
+ghost use Rattle.arc_acceptor.specs.Answering.{IsLearnable, progress_of, turn_in, CopiesCommand, IsOutcome};
 
 use crate::{Progress, Turned};
 use arc_bytes::Memory;
-use arc_data::{Answer, Command, Equals, Message, Record, top_vote};
-use arc_voting::applied_at;
+use arc_data::{Answer, Command, Message, Record, top_vote};
+use arc_voting::{applied_at, holds_vote, votes_stay_in_place};
 use std::alloc::Global;
 
 /// What a node that keeps these entries appends and answers to a message. Of two votes of one highest ballot the first
-/// counts.
+/// counts. `Memory` comes only where the turn copies a command.
 pub fn answer(alloc: Global, rs: &[Record], m: &Message) -> Result<Turned, Memory>
     requires entries { length rs.now < 2 ^ 32 }
     requires slot { IsLearnable m.now }
-    ensures { IfOk result (λ turned. IsTurn rs.now m.now (turn_in turned)) }
+    ensures table { IfOk result (λ turned. IsTurn rs.now m.now (turn_in turned)) }
+    ensures memory { OnErr result ((turn : Turn) → IsTurn rs.now m.now turn → CopiesCommand turn) }
 {
     answer_at(alloc, rs, Progress::of(rs), m)
 }
@@ -33,17 +38,64 @@ pub fn answer_at(
     requires entries { length rs.now < 2 ^ 32 }
     requires slot { IsLearnable m.now }
     requires progress { progress ≡ progress_of rs.now }
-    ensures { IfOk result (λ turned. IsTurn rs.now m.now (turn_in turned)) }
+    ensures table { IfOk result (λ turned. IsTurn rs.now m.now (turn_in turned)) }
+    ensures memory { OnErr result ((turn : Turn) → IsTurn rs.now m.now turn → CopiesCommand turn) }
 {
     match m {
-        Message::Status { slot } => status(alloc, rs, progress, *slot),
-        Message::Prepare { slot, ballot } => prepare(alloc, rs, progress, *slot, *ballot),
+        Message::Status { slot } => status(alloc, progress, applied_at(rs, *slot), *slot),
+        Message::Prepare { slot, ballot } => {
+            prepare(alloc, progress, applied_at(rs, *slot), rs, *slot, *ballot)
+        }
         Message::Accept {
             slot,
             ballot,
             command,
-        } => accept(alloc, rs, progress, *slot, *ballot, command),
-        Message::Learn { slot, command } => learn(alloc, rs, progress, *slot, command),
+        } => accept(
+            alloc,
+            progress,
+            applied_at(rs, *slot),
+            rs,
+            *slot,
+            *ballot,
+            command,
+        ),
+        Message::Learn { slot, command } => learn(alloc, progress, *slot, command),
+    }
+}
+
+/// The same from the tail of the entries, for all entries whose votes stand at the slots that were open then: `length` of
+/// them close slots, `last` is the last promised ballot, or 0, `known` is the command that is closed at the message's slot,
+/// and `tail` is what stands behind the last entry that closes one. It looks at no other entry.
+pub fn answer_tail(
+    alloc: Global,
+    length: u32,
+    last: u64,
+    known: Option<&Command>,
+    tail: &[Record],
+    m: &Message,
+) -> Result<Turned, Memory>
+    requires slot { IsLearnable m.now }
+    ensures table { IfOk result (λ turned. (rs : List Record) → VotesAreInPlace rs → closed_len rs ≡ length →
+        promise rs ≡ last → tail_of rs ≡ tail.now → slice_get (applied rs) (slot_of m.now) ≡ option_copied known.entry →
+        IsTurn rs m.now (turn_in turned)) }
+    ensures memory { OnErr result ((rs : List Record) → VotesAreInPlace rs → closed_len rs ≡ length →
+        promise rs ≡ last → tail_of rs ≡ tail.now → slice_get (applied rs) (slot_of m.now) ≡ option_copied known.entry →
+        (turn : Turn) → IsTurn rs m.now turn → CopiesCommand turn) }
+{
+    votes_stay_in_place();
+    let progress = Progress {
+        length,
+        promise: last,
+    };
+    match m {
+        Message::Status { slot } => status(alloc, progress, known, *slot),
+        Message::Prepare { slot, ballot } => prepare(alloc, progress, known, tail, *slot, *ballot),
+        Message::Accept {
+            slot,
+            ballot,
+            command,
+        } => accept(alloc, progress, known, tail, *slot, *ballot, command),
+        Message::Learn { slot, command } => learn(alloc, progress, *slot, command),
     }
 }
 
@@ -58,8 +110,8 @@ fn only(reply: Answer) -> Turned
 }
 
 /// The command that is closed at the slot.
-fn known(alloc: Global, slot: u32, command: &Command) -> Result<Turned, Memory>
-    ensures { IfOk result (λ t. turn_in t ≡ answers_only (Answer.Known slot command.now)) }
+fn tell_known(alloc: Global, slot: u32, command: &Command) -> Result<Turned, Memory>
+    ensures { IsOutcome (answers_only (Answer.Known slot command.now)) result }
 {
     let Ok(command) = command.copy(alloc) else {
         return Err(Memory);
@@ -68,11 +120,16 @@ fn known(alloc: Global, slot: u32, command: &Command) -> Result<Turned, Memory>
 }
 
 /// The length of the list, the promise, and the command at the slot.
-fn status(alloc: Global, rs: &[Record], progress: Progress, slot: u32) -> Result<Turned, Memory>
-    requires { progress ≡ progress_of rs.now }
-    ensures { IfOk result (λ t. turn_in t ≡ turn_of false rs.now (Message.Status slot)) }
+fn status(
+    alloc: Global,
+    progress: Progress,
+    known: Option<&Command>,
+    slot: u32,
+) -> Result<Turned, Memory>
+    ensures { (rs : List Record) → progress ≡ progress_of rs → slice_get (applied rs) slot ≡ option_copied known.entry →
+        IsOutcome (turn_of false rs (Message.Status slot)) result }
 {
-    let known = match applied_at(rs, slot) {
+    let known = match known {
         Some(command) => {
             let Ok(copy) = command.copy(alloc) else {
                 return Err(Memory);
@@ -88,43 +145,45 @@ fn status(alloc: Global, rs: &[Record], progress: Progress, slot: u32) -> Result
     }))
 }
 
-/// A promise at the end of the list.
+/// A promise at the end of the list, with the highest of these votes at the slot.
 fn prepare(
     alloc: Global,
-    rs: &[Record],
     progress: Progress,
+    known: Option<&Command>,
+    votes: &[Record],
     slot: u32,
     ballot: u64,
 ) -> Result<Turned, Memory>
-    requires { progress ≡ progress_of rs.now }
-    ensures { IfOk result (λ t. turn_in t ≡ turn_of false rs.now (Message.Prepare slot ballot)) }
+    ensures { (rs : List Record) → progress ≡ progress_of rs → slice_get (applied rs) slot ≡ option_copied known.entry →
+        (slot ≡ closed_len rs → top_vote slot rs ≡ top_vote slot votes.now) →
+        IsOutcome (turn_of false rs (Message.Prepare slot ballot)) result }
 {
-    if let Some(command) = applied_at(rs, slot) {
-        return known(alloc, slot, command);
+    if let Some(command) = known {
+        return tell_known(alloc, slot, command);
     }
     let length = progress.length;
     if length < slot {
         return Ok(only(Answer::Behind { length }));
     }
-    promise_here(alloc, rs, progress, slot, ballot)
+    promise_here(alloc, progress, votes, slot, ballot)
 }
 
 /// A promise, in a ballot above the last one.
 fn promise_here(
     alloc: Global,
-    rs: &[Record],
     progress: Progress,
+    votes: &[Record],
     slot: u32,
     ballot: u64,
 ) -> Result<Turned, Memory>
-    requires { progress ≡ progress_of rs.now }
-    ensures { IfOk result (λ t. turn_in t ≡ promise_turn rs.now slot ballot) }
+    ensures { (rs : List Record) → progress ≡ progress_of rs → top_vote slot rs ≡ top_vote slot votes.now →
+        IsOutcome (promise_turn rs slot ballot) result }
 {
     let last = progress.promise;
     if ballot <= last {
         return Ok(only(Answer::Refused { ballot: last }));
     }
-    let vote = copy_vote(alloc, top_vote(rs, slot))?;
+    let vote = copy_vote(alloc, top_vote(votes, slot))?;
     let from = progress.length;
     Ok(Turned {
         append: Some(Record::Promised { from, ballot }),
@@ -134,7 +193,8 @@ fn promise_here(
 
 /// A copy of a vote that is lent.
 fn copy_vote(alloc: Global, vote: Option<(u64, &Command)>) -> Result<Option<(u64, Command)>, Memory>
-    ensures { IfOk result (λ copy. copy ≡ told vote.entry) }
+    ensures copy { IfOk result (λ copy. copy ≡ told vote.entry) }
+    ensures memory { OnErr result (IsSome (told vote.entry)) }
 {
     match vote {
         Some((ballot, command)) => {
@@ -147,37 +207,39 @@ fn copy_vote(alloc: Global, vote: Option<(u64, &Command)>) -> Result<Option<(u64
     }
 }
 
-/// A vote at the end of the list.
+/// A vote at the end of the list, where it may stand among these votes already.
 fn accept(
     alloc: Global,
-    rs: &[Record],
     progress: Progress,
+    known: Option<&Command>,
+    votes: &[Record],
     slot: u32,
     ballot: u64,
     command: &Command,
 ) -> Result<Turned, Memory>
-    requires { progress ≡ progress_of rs.now }
-    ensures { IfOk result (λ t. IsTurn rs.now (Message.Accept slot ballot command.now) (turn_in t)) }
+    ensures { (stands : Bool) → (IsTrue stands ↔ HoldsVote votes.now slot ballot command.now) →
+        (rs : List Record) → progress ≡ progress_of rs → slice_get (applied rs) slot ≡ option_copied known.entry →
+        IsOutcome (turn_of stands rs (Message.Accept slot ballot command.now)) result }
 {
-    let stands = holds_vote(rs, slot, ballot, command);
-    accept_told(alloc, stands, rs, progress, slot, ballot, command)
+    let stands = holds_vote(votes, slot, ballot, command);
+    accept_told(alloc, stands, progress, known, slot, ballot, command)
 }
 
 /// A vote at the end of the list, where it is known whether it stands already.
 fn accept_told(
     alloc: Global,
     stands: bool,
-    rs: &[Record],
     progress: Progress,
+    known: Option<&Command>,
     slot: u32,
     ballot: u64,
     command: &Command,
 ) -> Result<Turned, Memory>
-    requires { progress ≡ progress_of rs.now }
-    ensures { IfOk result (λ t. turn_in t ≡ turn_of stands rs.now (Message.Accept slot ballot command.now)) }
+    ensures { (rs : List Record) → progress ≡ progress_of rs → slice_get (applied rs) slot ≡ option_copied known.entry →
+        IsOutcome (turn_of stands rs (Message.Accept slot ballot command.now)) result }
 {
-    if let Some(command) = applied_at(rs, slot) {
-        return known(alloc, slot, command);
+    if let Some(command) = known {
+        return tell_known(alloc, slot, command);
     }
     let length = progress.length;
     if length < slot {
@@ -195,8 +257,7 @@ fn vote_here(
     ballot: u64,
     command: &Command,
 ) -> Result<Turned, Memory>
-    ensures { IfOk result (λ t. (rs : List Record) → last ≡ promise rs →
-        turn_in t ≡ vote_turn stands rs slot ballot command.now) }
+    ensures { (rs : List Record) → last ≡ promise rs → IsOutcome (vote_turn stands rs slot ballot command.now) result }
 {
     if ballot < last {
         return Ok(only(Answer::Refused { ballot: last }));
@@ -218,16 +279,10 @@ fn vote_here(
 }
 
 /// A command that was chosen at the end of the list.
-fn learn(
-    alloc: Global,
-    rs: &[Record],
-    progress: Progress,
-    slot: u32,
-    command: &Command,
-) -> Result<Turned, Memory>
-    requires progress { progress ≡ progress_of rs.now }
-    requires slot { slot + 1 < 2 ^ 32 }
-    ensures { IfOk result (λ t. turn_in t ≡ turn_of false rs.now (Message.Learn slot command.now)) }
+fn learn(alloc: Global, progress: Progress, slot: u32, command: &Command) -> Result<Turned, Memory>
+    requires { slot + 1 < 2 ^ 32 }
+    ensures { (rs : List Record) → progress ≡ progress_of rs →
+        IsOutcome (turn_of false rs (Message.Learn slot command.now)) result }
 {
     let length = progress.length;
     if slot < length {
@@ -243,25 +298,4 @@ fn learn(
         append: Some(Record::Closed { slot, command }),
         reply: Answer::Learned { length: length + 1 },
     })
-}
-
-/// Whether this vote stands among the entries.
-fn holds_vote(rs: &[Record], slot: u32, ballot: u64, command: &Command) -> bool
-    ensures { IsTrue result ↔ HoldsVote rs.now slot ballot command.now }
-{
-    rs.iter().any(|entry| is_vote(entry, slot, ballot, command))
-}
-
-/// Whether this entry is that vote.
-fn is_vote(entry: &Record, slot: u32, ballot: u64, command: &Command) -> bool
-    ensures { IsTrue result ↔ (entry.now ≡ Record.Voted slot ballot command.now) }
-{
-    match entry {
-        Record::Voted {
-            slot: its_slot,
-            ballot: its_ballot,
-            command: its_command,
-        } => *its_slot == slot && *its_ballot == ballot && its_command.equals(command),
-        _ => false,
-    }
 }

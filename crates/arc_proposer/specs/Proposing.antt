@@ -1,5 +1,5 @@
 -- What a proposer is, as plain data.
-use Rattle.std.specs.Prelude.{ℕ, ◌≡◌, ◌==◌, ◌&&◌, Bool, true, false, if◌then◌else◌, Option, Some, None, is_none}
+use Rattle.std.specs.Prelude.{ℕ, ◌≡◌, ◌==◌, ◌&&◌, Bool, true, false, IsTrue, IsNone, IsSome, if◌then◌else◌, Option, Some, None, is_none}
 use Rattle.arc_bytes.specs.Five.{at, with}
 use Rattle.arc_bytes.specs.declared.five.Five.{Five}
 use Rattle.arc_data.specs.declared.command.Command.{Command}
@@ -65,6 +65,17 @@ with_promise p peer (Promise slot ballot vote) =
     if is_of p slot ballot && is_none (at p.promises peer) then record p { promises = with p.promises peer (Some vote) } else p
 with_promise p peer (Accepted slot ballot) = p
 with_promise p peer (Learned length) = p
+
+-- The answer is a promise that counts, of the slot and the ballot and the node's first, and it tells a vote: then the vote
+-- is copied.
+abbrev pub CopiesVote : Proposing → ℕ → Answer → Type 0
+CopiesVote p peer (At length ballot known) = ⊥
+CopiesVote p peer (Known slot c) = ⊥
+CopiesVote p peer (Behind length) = ⊥
+CopiesVote p peer (Refused ballot) = ⊥
+CopiesVote p peer (Promise slot ballot vote) = IsTrue (is_of p slot ballot) × IsNone (at p.promises peer) × IsSome vote
+CopiesVote p peer (Accepted slot ballot) = ⊥
+CopiesVote p peer (Learned length) = ⊥
 
 -- After an answer: a vote at the slot and in the ballot counts, and nothing else changes.
 unfoldable pub with_vote : Proposing → ℕ → Answer → Proposing

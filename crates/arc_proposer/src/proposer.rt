@@ -1,5 +1,5 @@
 //! The proposer of one ballot.
-ghost use Rattle.std.specs.Prelude.{◌≡◌, ◌↔◌, ◌<◌, ◌≤◌, ◌%◌, ◌+◌, ◌^◌, ℕ, IsTrue, IfOk, OnOk, OnErr, OnSome, IfNone, IfSome, max};
+ghost use Rattle.std.specs.Prelude.{◌≡◌, ◌↔◌, ◌<◌, ◌≤◌, ◌%◌, ◌+◌, ◌^◌, ℕ, IsTrue, IsSome, IfOk, OnOk, OnErr, OnSome, IfNone, IfSome, max};
 ghost use Rattle.arc_bytes.specs.Five.{at};
 ghost use Rattle.arc_voting.specs.Proposal.{IsProposal};
 ghost use Rattle.arc_proposer.specs.Counting.{ByThreeWith};
@@ -13,6 +13,7 @@ ghost use Rattle.arc_proposer.specs.Proposing.{
   with_vote,
   proposed_by,
   HasNoneCounted,
+  CopiesVote,
 };
 
 use crate::ballots::least_above;
@@ -106,12 +107,13 @@ impl Proposer {
     }
 
     /// Counts a peer's promise of the slot and the ballot, where it is that peer's first. Any other answer changes
-    /// nothing. For want of memory nothing has changed.
+    /// nothing. `Memory` comes only where the promise counts and tells a vote, and nothing has changed then.
     #[tactic(auto, unfolding(crate::specs::Proposing::with_promise))]
     pub fn on_promise(&mut self, alloc: Global, peer: u8, a: &Answer) -> Result<(), Memory>
         requires { peer < 5 }
         ensures ok { OnOk result (self.new ≡ with_promise self.old peer a.now) }
         ensures memory { OnErr result (self.new ≡ self.old) }
+        ensures cause { OnErr result (CopiesVote self.old peer a.now) }
     {
         let Answer::Promise { slot, ballot, vote } = a else {
             return Ok(());
@@ -181,7 +183,8 @@ impl Proposer {
 
 /// The same told vote again.
 fn copy_of(alloc: Global, vote: &Option<(u64, Command)>) -> Result<Option<(u64, Command)>, Memory>
-    ensures { IfOk result (λ copy. copy ≡ vote.now) }
+    ensures copy { IfOk result (λ copy. copy ≡ vote.now) }
+    ensures memory { OnErr result (IsSome vote.now) }
 {
     match vote {
         None => Ok(None),

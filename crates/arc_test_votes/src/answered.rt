@@ -1,11 +1,12 @@
-//! The table of messages and answers, each row of it once.
+//! The table of messages and answers, each row of it once over the whole list and once over its tail.
 ghost use Rattle.std.specs.Prelude.{◌<◌, ◌^◌, length};
 ghost use Rattle.arc_acceptor.specs.Answering.{IsLearnable};
 
 use crate::named::{Name, command};
-use arc_acceptor::{Turned, answer};
+use arc_acceptor::{Turned, answer, answer_tail};
 use arc_bytes::Memory;
 use arc_data::{Answer, Command, Message, Record};
+use arc_voting::Indexed;
 use std::alloc::Global;
 use std::process::Abort;
 use std::test::Fail;
@@ -139,7 +140,67 @@ fn told(alloc: Global, entries: &[Record], asked: &Message) -> Result<(Option<Wo
     Ok(shown)
 }
 
+/// The same by one who keeps a table of the slots, and looks at the entries behind the last closed one alone.
+fn told_by_tail(
+    alloc: Global,
+    list: &Indexed,
+    slot: u32,
+    asked: &Message,
+) -> Result<(Option<Word>, Word), Memory>
+    requires { IsLearnable asked.now }
+{
+    let known = list.applied_at(slot);
+    let turned = answer_tail(
+        alloc,
+        list.closed_len(),
+        list.promise(),
+        known,
+        list.tail(),
+        asked,
+    )?;
+    let shown = shown(&turned);
+    drop(turned);
+    Ok(shown)
+}
+
+/// The slot that a message asks about.
+fn slot(word: Word) -> u32 {
+    match word {
+        Status(slot) | Prepare(slot, _) | Accept(slot, _, _) | Learn(slot, _) => slot,
+        _ => 0,
+    }
+}
+
 /// The same, where the message is made of a word.
+fn asked_by_tail(
+    alloc: Global,
+    list: &Indexed,
+    asked: Word,
+) -> Result<(Option<Word>, Word), Memory> {
+    let message = message(asked);
+    let told = told_by_tail(alloc, list, slot(asked), &message);
+    drop(message);
+    told
+}
+
+/// The same, where the entries are made of words.
+fn turn_by_tail(
+    alloc: Global,
+    journal: &[Word],
+    word: Word,
+) -> Result<(Option<Word>, Word), Memory> {
+    let entries = entries(alloc, journal)?;
+    if entries.len() > 99 {
+        drop(entries);
+        return Err(Memory);
+    }
+    let list = Indexed::of(alloc, entries)?;
+    let turn = asked_by_tail(alloc, &list, word);
+    drop(list);
+    turn
+}
+
+/// What a node with these entries appends and answers, where the message is made of a word.
 fn asked(alloc: Global, entries: &[Record], asked: Word) -> Result<(Option<Word>, Word), Memory> {
     if entries.len() > 99 {
         return Err(Memory);
@@ -246,6 +307,8 @@ fn check_all(rt: &(impl Abort + AllocGlobal), rows: &[Row]) -> Result<(), Fail> 
     for (journal, asked, appended, answered) in rows {
         let turned = turn(rt.alloc(), journal, *asked)?;
         assert_eq!(rt; turned, (*appended, *answered), "{asked:?}");
+        let turned = turn_by_tail(rt.alloc(), journal, *asked)?;
+        assert_eq!(rt; turned, (*appended, *answered), "{asked:?} by the tail");
     }
     Ok(())
 }

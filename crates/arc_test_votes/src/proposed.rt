@@ -64,18 +64,19 @@ fn a_ballot_is_the_least_of_its_node_above_what_was_shown(rt: HostRuntime) {
 /// A peer, and the ballot and the token of the vote that it tells with its promise.
 type Told = (u8, Option<(u64, u64)>);
 
-/// A peer promises slot 7 in ballot 5.
+/// A peer promises slot 7 in a ballot.
 fn promise(
     alloc: Global,
     proposer: &mut Proposer,
     peer: u8,
+    ballot: u64,
     vote: Option<(u64, u64)>,
 ) -> Result<(), Memory>
     requires { peer < 5 }
 {
     let told = Answer::Promise {
         slot: 7,
-        ballot: 5,
+        ballot,
         vote: vote.map(|(ballot, token)| (ballot, command(Name(0, 1, 0, token)))),
     };
     let done = proposer.on_promise(alloc, peer, &told);
@@ -83,32 +84,44 @@ fn promise(
     done
 }
 
-/// These peers promise slot 7 in ballot 5, one after another.
-fn promise_all(alloc: Global, proposer: &mut Proposer, told: &[Told]) -> Result<(), Memory> {
+/// These peers promise slot 7 in a ballot, one after another.
+fn promise_all(
+    alloc: Global,
+    proposer: &mut Proposer,
+    ballot: u64,
+    told: &[Told],
+) -> Result<(), Memory> {
     for (peer, vote) in told {
-        promise(alloc, proposer, (*peer).min(4), *vote)?;
+        promise(alloc, proposer, (*peer).min(4), ballot, *vote)?;
     }
     Ok(())
 }
 
-/// The token of what node 0 proposes at slot 7 in ballot 5, where its own command has the token 9.
-fn proposed(alloc: Global, told: &[Told]) -> Result<Option<u64>, Memory> {
-    let mut proposer = Proposer::begin(0, 7, command(Name(0, 1, 0, 9)), 4);
-    let done = promise_all(alloc, &mut proposer, told);
+/// An endpoint and the ballot in which it asks for promises of slot 7, what is told with them, and the token of what is
+/// proposed. The endpoint's own command has the token 9.
+type Proposal = (u8, u64, &'static [Told], Option<u64>);
+
+/// The token of what a node proposes at slot 7 in a ballot of its own.
+fn proposed(alloc: Global, node: u8, ballot: u64, told: &[Told]) -> Result<Option<u64>, Memory> {
+    let shown = ballot.clamp(1, 99) - 1;
+    let mut proposer = Proposer::begin(node.min(4), 7, command(Name(0, 1, 0, 9)), shown);
+    let done = promise_all(alloc, &mut proposer, ballot, told);
     let token = proposer.proposal().map(|command| command.token);
     drop(proposer);
     done?;
     Ok(token)
 }
 
-const PROPOSALS: [(&[Told], Option<u64>); 6] = [
+const PROPOSALS: [Proposal; 8] = [
     // two promises are no majority
-    (&[(0, None), (1, Some((1, 10)))], None),
+    (0, 5, &[(0, None), (1, Some((1, 10)))], None),
     // the endpoint's own promise is needed
-    (&[(1, None), (2, None), (3, None), (4, None)], None),
-    (&[(0, None), (2, None), (4, None)], Some(9)),
+    (0, 5, &[(1, None), (2, None), (3, None), (4, None)], None),
+    (0, 5, &[(0, None), (2, None), (4, None)], Some(9)),
     // the vote of the highest ballot; of two the first node's
     (
+        0,
+        5,
         &[
             (0, Some((3, 10))),
             (1, Some((4, 11))),
@@ -118,19 +131,34 @@ const PROPOSALS: [(&[Told], Option<u64>); 6] = [
         Some(11),
     ),
     (
+        0,
+        5,
         &[(0, None), (3, Some((4, 13))), (4, Some((4, 14)))],
         Some(13),
     ),
     // the first answer of a peer counts
     (
+        0,
+        5,
         &[(0, None), (1, Some((1, 10))), (1, Some((3, 11))), (2, None)],
+        Some(10),
+    ),
+    // promises that told no vote, though node 0 has voted in their ballot since: its own command is proposed, and that vote is
+    // for another
+    (0, 5, &[(0, None), (1, None), (2, None)], Some(9)),
+    // a counted node has promised ballot 12 since, in which node 0 voted: its vote is proposed, and node 1, whose ballot it
+    // is, holds one for another
+    (
+        1,
+        11,
+        &[(0, Some((12, 10))), (1, Some((11, 13))), (3, None)],
         Some(10),
     ),
 ];
 
-fn check_proposals(rt: &(impl Abort + AllocGlobal), rows: &[(&[Told], Option<u64>)]) {
-    for (told, token) in rows {
-        assert_eq!(rt; proposed(rt.alloc(), told), Ok(*token));
+fn check_proposals(rt: &(impl Abort + AllocGlobal), rows: &[Proposal]) {
+    for (node, ballot, told, token) in rows {
+        assert_eq!(rt; proposed(rt.alloc(), *node, *ballot, told), Ok(*token));
     }
 }
 
