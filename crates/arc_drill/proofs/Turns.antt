@@ -10,11 +10,12 @@ use Rattle.arc_data.specs.declared.message.Message.TheVariants.{Learn}
 use Rattle.arc_data.specs.declared.record.Record.{Record}
 use Rattle.arc_data.specs.declared.record.Record.TheVariants.{Closed}
 use Rattle.arc_journal.specs.Layout.{entry_limit}
-use Rattle.arc_node.specs.Handling.{Handles, HasAnswered, HasFallen, with_appended}
+use Rattle.arc_node.specs.Handling.{EndsHandling, HasAnswered, HasFallen}
 use Rattle.arc_node.specs.Node.{IsInOrder, IsSameNode, doubts, doubt_of, is_up, kept, limit_of}
 use Rattle.arc_node.specs.declared.handle_end.HandleEnd.{HandleEnd}
 use Rattle.arc_node.specs.declared.handle_end.HandleEnd.TheVariants as ends
 use Rattle.arc_node.specs.declared.node.Node.{Node}
+use Rattle.arc_voting.specs.Handled.{appended}
 use Rattle.arc_voting.specs.Lists.{applied}
 use Rattle.arc_voting.specs.Turn.{Turn, IsTurn}
 use Rattle.arc_voting.proofs.Uses.{applied_length}
@@ -36,8 +37,8 @@ learn_turn journal slot c turn at_end is =
 pub learned_done : {D : Type 0} (tells : Type 0) (content : D → List ℕ) (may_leave : D → List ℕ → Type 0) (faults : D → ℕ) (old new : Node D) (slot : ℕ) (c : Command) (reply : Answer)
     → slot ≡ closed_len (kept old) → IsSameNode old new → IsInOrder tells content may_leave new → HasAnswered old new (Learn slot c) reply → Learns faults old new slot c Done
 learned_done tells content may_leave faults old new slot c reply at_end same order did =
-    let appended = learn_turn (kept old) slot c did.turn at_end did.by_the_table in
-    let entries : kept new ≡ kept old ++ Closed slot c ∷ [] = did.entries ∙ ap (with_appended (kept old)) appended in
+    let needed = learn_turn (kept old) slot c did.turn at_end did.by_the_table in
+    let entries : kept new ≡ kept old ++ Closed slot c ∷ [] = did.entries ∙ ap (appended (kept old)) needed in
     let limit : limit_of new ≡ limit_of old = ap entry_limit same.slots in
     let room = order.limits.room in
     let longer = ap length entries in
@@ -51,14 +52,14 @@ with_one new entry some room =
 
 -- or it went down over it
 pub learned_fallen : {D : Type 0} (tells : Type 0) (content : D → List ℕ) (may_leave : D → List ℕ → Type 0) (faults : D → ℕ) (old new : Node D) (slot : ℕ) (c : Command)
-    → slot ≡ closed_len (kept old) → is_up old ≡ true → IsSameNode old new → IsInOrder tells content may_leave new → Handles faults old new (Learn slot c) ends.Down → Learns faults old new slot c Fallen
+    → slot ≡ closed_len (kept old) → is_up old ≡ true → IsSameNode old new → IsInOrder tells content may_leave new → EndsHandling faults old new (Learn slot c) ends.Down → Learns faults old new slot c Fallen
 learned_fallen tells content may_leave faults old new slot c at_end up same order handled =
     ⊎_elim
     (λ was_down. absurd (true≢false (sym up ∙ was_down.0)))
     (λ (did : (is_up old ≡ true) × HasFallen faults old new (Learn slot c)).
     let fallen = did.1 in
-    let appended = learn_turn (kept old) slot c fallen.turn at_end fallen.by_the_table in
-    let entry_is : fallen.entry ≡ Closed slot c = same_Some _ _ (sym fallen.needed ∙ appended) in
+    let needed = learn_turn (kept old) slot c fallen.turn at_end fallen.by_the_table in
+    let entry_is : fallen.entry ≡ Closed slot c = same_Some _ _ (sym fallen.needed ∙ needed) in
     let limit : limit_of new ≡ limit_of old = ap entry_limit same.slots in
     let same_length = ap length fallen.entries in (
       handled.0,
@@ -74,7 +75,7 @@ learned_fallen tells content may_leave faults old new slot c at_end up same orde
 
 module _ {D : Type 0} (tells : Type 0) (content : D → List ℕ) (may_leave : D → List ℕ → Type 0) (faults : D → ℕ) (old new : Node D) (slot : ℕ) (c : Command)
     (at_end : slot ≡ closed_len (kept old)) (up : is_up old ≡ true) (same : IsSameNode old new) (order : IsInOrder tells content may_leave new) where
-  learned_by : (end : HandleEnd) → Handles faults old new (Learn slot c) end → Learns faults old new slot c (learned_of end)
+  learned_by : (end : HandleEnd) → EndsHandling faults old new (Learn slot c) end → Learns faults old new slot c (learned_of end)
   learned_by (ends.Answered reply) did = learned_done tells content may_leave faults old new slot c reply at_end same order did
   learned_by ends.Down did = learned_fallen tells content may_leave faults old new slot c at_end up same order did
   learned_by ends.Memory did = (did.1, did.2)

@@ -14,7 +14,7 @@ use Rattle.arc_data.specs.declared.reply.Reply.{Reply}
 use Rattle.arc_node.specs.Comparing.{IsKeptOrWith}
 use Rattle.arc_node.specs.Node.{KeepsList, IsPossible, disk_in, doubt_of, is_up, kept, limit_of, number_of, slots_in}
 use Rattle.arc_node.specs.Starting.{IsFull, IsInDoubt, StartsBehind, StaysShut}
-use Rattle.arc_node.specs.Handling.{Handles}
+use Rattle.arc_node.specs.Handling.{EndsHandling}
 use Rattle.arc_node.specs.declared.handle_end.HandleEnd.{HandleEnd}
 use Rattle.arc_node.specs.declared.handle_end.HandleEnd.TheVariants as handled
 use Rattle.arc_node.specs.declared.node.Node.{Node}
@@ -126,7 +126,7 @@ learned_of handled.Memory = Memory
 
 -- What became of a node that was told a message, by how that ended.
 abbrev pub HandlesAs : {D : Type 0} (faults : D → ℕ) → Node D → Node D → Message → Learned → Type 0
-HandlesAs faults old new message learned = (end : HandleEnd) × (learned ≡ learned_of end) × Handles faults old new message end
+HandlesAs faults old new message learned = (end : HandleEnd) × (learned ≡ learned_of end) × EndsHandling faults old new message end
 
 -- The state did this command, and its reply is told.
 pub record IsAnswered (slot : ℕ) (state state' : Parts) (c : Command) (line : List ℕ) : Type 0 where

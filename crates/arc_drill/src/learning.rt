@@ -5,7 +5,7 @@ ghost use Rattle.arc_data.specs.Valid.{IsValidCommand};
 ghost use Rattle.arc_drill.specs.Since.{Since};
 ghost use Rattle.arc_drill.specs.Steps.{HandlesAs, Learns, learned_of};
 ghost use Rattle.arc_node.specs.Handling.{IsReceivable};
-ghost use Rattle.arc_node.specs.Node.{IsInOrder, IsSameNode, disk_in, is_up, kept, slots_in};
+ghost use Rattle.arc_node.specs.Node.{HasVotesInPlace, IsInOrder, IsSameNode, disk_in, is_up, kept, slots_in};
 
 use arc_bytes::Memory;
 use arc_data::{Command, Message};
@@ -32,11 +32,13 @@ pub(crate) fn learn<D: Disk>(
     command: &Command,
 ) -> Learned
     requires in_order { IsInOrder D.tells D.content D.may_leave node.old }
+    requires in_place { HasVotesInPlace node.old }
     requires up { is_up node.old ≡ true }
     requires valid { IsValidCommand command.now }
     requires at_the_end { slot ≡ closed_len (kept node.old) }
     requires below { slot < slots_in node.old }
     ensures in_order { IsInOrder D.tells D.content D.may_leave node.new }
+    ensures in_place { HasVotesInPlace node.new }
     ensures learns { Learns D.faults node.old node.new slot command.now result }
     ensures since { Since D.faults D.stops_in D.is_tame (disk_in node.old) (disk_in node.new) }
     ensures same { IsSameNode node.old node.new }
@@ -50,8 +52,10 @@ pub(crate) fn learn<D: Disk>(
 /// Tells a node a message, which is gone then.
 fn tell<D: Disk>(alloc: Global, node: &mut Node<D>, message: Message) -> Learned
     requires in_order { IsInOrder D.tells D.content D.may_leave node.old }
+    requires in_place { HasVotesInPlace node.old }
     requires message { IsReceivable (slots_in node.old) message }
     ensures in_order { IsInOrder D.tells D.content D.may_leave node.new }
+    ensures in_place { HasVotesInPlace node.new }
     ensures handles { HandlesAs D.faults node.old node.new message result }
     ensures since { Since D.faults D.stops_in D.is_tame (disk_in node.old) (disk_in node.new) }
     ensures same { IsSameNode node.old node.new }
@@ -64,8 +68,10 @@ fn tell<D: Disk>(alloc: Global, node: &mut Node<D>, message: Message) -> Learned
 /// Tells a node a message.
 fn handle<D: Disk>(alloc: Global, node: &mut Node<D>, message: &Message) -> Learned
     requires in_order { IsInOrder D.tells D.content D.may_leave node.old }
+    requires in_place { HasVotesInPlace node.old }
     requires message { IsReceivable (slots_in node.old) message.now }
     ensures in_order { IsInOrder D.tells D.content D.may_leave node.new }
+    ensures in_place { HasVotesInPlace node.new }
     ensures handles { HandlesAs D.faults node.old node.new message.now result }
     ensures since { Since D.faults D.stops_in D.is_tame (disk_in node.old) (disk_in node.new) }
     ensures same { IsSameNode node.old node.new }

@@ -8,7 +8,7 @@ ghost use Rattle.arc_drill.specs.Since.{Since};
 ghost use Rattle.arc_drill.specs.Telling.{slots_of};
 ghost use Rattle.arc_journal.specs.Image.{records_of};
 ghost use Rattle.arc_journal.specs.Runs.{OpensInRun};
-ghost use Rattle.arc_node.specs.Node.{IsInOrder, IsPossible, IsSameNode, disk_in};
+ghost use Rattle.arc_node.specs.Node.{HasVotesInPlace, IsInOrder, IsPossible, IsSameNode, disk_in};
 ghost use Rattle.arc_node.specs.Starting.{IsCreated};
 ghost use Rattle.arc_plain.specs.State.{fresh as fresh_state};
 ghost use Rattle.arc_script.specs.Steps.{IsValidStep};
@@ -72,6 +72,7 @@ fn do_steps<K: Sink, D: Rig>(
 ) -> Status
     requires valid { All IsValidStep steps.now }
     requires in_order { IsInOrder D.tells D.content D.may_leave node.old }
+    requires in_place { HasVotesInPlace node.old }
     requires created { IsCreated node.old 0 (slots_of steps.now) }
     requires fresh { StandsFor state.old fresh_state }
     ensures in_order { IsInOrder D.tells D.content D.may_leave node.new }

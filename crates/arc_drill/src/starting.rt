@@ -2,7 +2,7 @@
 ghost use Rattle.std.specs.Prelude.{◌≡◌, IfOk};
 ghost use Rattle.arc_drill.specs.Since.{Since};
 ghost use Rattle.arc_drill.specs.Steps.{SpellsStart, StartsAgain, start_of};
-ghost use Rattle.arc_node.specs.Node.{IsInOrder, IsSameNode, disk_in};
+ghost use Rattle.arc_node.specs.Node.{HasVotesInPlace, IsInOrder, IsSameNode, disk_in};
 
 use crate::lines;
 use arc_bytes::Memory;
@@ -32,7 +32,9 @@ pub(crate) enum Start {
 /// Starts the node again. The disk of one that isn't up crashes before that.
 pub(crate) fn start_again<D: Rig>(alloc: Global, node: &mut Node<D>) -> Start
     requires in_order { IsInOrder D.tells D.content D.may_leave node.old }
+    requires in_place { HasVotesInPlace node.old }
     ensures in_order { IsInOrder D.tells D.content D.may_leave node.new }
+    ensures in_place { HasVotesInPlace node.new }
     ensures starts { StartsAgain D.tells D.faults node.old node.new result }
     ensures since { Since D.faults D.stops_in D.is_tame (disk_in node.old) (disk_in node.new) }
     ensures same { IsSameNode node.old node.new }
@@ -47,7 +49,9 @@ pub(crate) fn start_again<D: Rig>(alloc: Global, node: &mut Node<D>) -> Start
 /// Starts the node again from what is on its disk.
 fn reopen<D: Rig>(alloc: Global, node: &mut Node<D>) -> Start
     requires in_order { IsInOrder D.tells D.content D.may_leave node.old }
+    requires in_place { HasVotesInPlace node.old }
     ensures in_order { IsInOrder D.tells D.content D.may_leave node.new }
+    ensures in_place { HasVotesInPlace node.new }
     ensures starts { StartsAgain D.tells D.faults node.old node.new result }
     ensures since { Since D.faults D.stops_in D.is_tame (disk_in node.old) (disk_in node.new) }
     ensures same { IsSameNode node.old node.new }

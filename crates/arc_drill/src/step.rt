@@ -7,7 +7,7 @@ ghost use Rattle.arc_drill.specs.Each.{Each};
 ghost use Rattle.arc_drill.specs.Since.{Since};
 ghost use Rattle.arc_drill.specs.Steps.{Does, Ends, IsAnswered, IsBehind, IsDoable, IsFit, asked, of_call};
 ghost use Rattle.arc_drill.specs.Telling.{IsDrawn};
-ghost use Rattle.arc_node.specs.Node.{HasLimits, IsInOrder, IsSameNode, disk_in, is_up, kept, number_of, slots_in};
+ghost use Rattle.arc_node.specs.Node.{HasLimits, HasVotesInPlace, IsInOrder, IsSameNode, disk_in, is_up, kept, number_of, slots_in};
 ghost use Rattle.arc_plain.specs.Cluster.{fold_of};
 ghost use Rattle.arc_script.specs.Steps.{IsValidStep};
 ghost use Rattle.arc_script.specs.declared.step.Step.TheVariants.{Call, Crash, Restart};
@@ -35,8 +35,10 @@ pub(crate) fn do_step<D: Rig>(
 ) -> Result<Vec<u8>, Memory>
     requires valid { IsValidStep step.now }
     requires in_order { IsInOrder D.tells D.content D.may_leave node.old }
+    requires in_place { HasVotesInPlace node.old }
     requires fit { IsFit node.old state.old }
     ensures in_order { IsInOrder D.tells D.content D.may_leave node.new }
+    ensures in_place { HasVotesInPlace node.new }
     ensures fit { OnOk result (IsFit node.new state.new) }
     ensures since { Since D.faults D.stops_in D.is_tame (disk_in node.old) (disk_in node.new) }
     ensures same { IsSameNode node.old node.new }
@@ -71,8 +73,10 @@ fn do_call<D: Rig>(
     requires valid { IsValid op.now }
     requires in_time { at_ms ≤ MAX_MS }
     requires in_order { IsInOrder D.tells D.content D.may_leave node.old }
+    requires in_place { HasVotesInPlace node.old }
     requires fit { IsFit node.old state.old }
     ensures in_order { IsInOrder D.tells D.content D.may_leave node.new }
+    ensures in_place { HasVotesInPlace node.new }
     ensures fit { OnOk result (IsFit node.new state.new) }
     ensures since { Since D.faults D.stops_in D.is_tame (disk_in node.old) (disk_in node.new) }
     ensures same { IsSameNode node.old node.new }
@@ -122,12 +126,14 @@ fn place<D: Rig>(
 ) -> Result<Vec<u8>, Memory>
     requires valid { IsValidCommand command.now }
     requires in_order { IsInOrder D.tells D.content D.may_leave node.old }
+    requires in_place { HasVotesInPlace node.old }
     requires fit { IsFit node.old state.old }
     requires up { is_up node.old ≡ true }
     requires at_the_end { slot ≡ closed_len (kept node.old) }
     requires below { slot < slots_in node.old }
     requires drawn { IsDrawn (kept node.old) command.now.id }
     ensures in_order { IsInOrder D.tells D.content D.may_leave node.new }
+    ensures in_place { HasVotesInPlace node.new }
     ensures fit { OnOk result (IsFit node.new state.new) }
     ensures since { Since D.faults D.stops_in D.is_tame (disk_in node.old) (disk_in node.new) }
     ensures same { IsSameNode node.old node.new }
@@ -161,8 +167,10 @@ fn answered(
 /// Starts the node again.
 fn restart<D: Rig>(alloc: Global, node: &mut Node<D>, state: &mut State) -> Result<Vec<u8>, Memory>
     requires in_order { IsInOrder D.tells D.content D.may_leave node.old }
+    requires in_place { HasVotesInPlace node.old }
     requires fit { IsFit node.old state.old }
     ensures in_order { IsInOrder D.tells D.content D.may_leave node.new }
+    ensures in_place { HasVotesInPlace node.new }
     ensures fit { OnOk result (IsFit node.new state.new) }
     ensures since { Since D.faults D.stops_in D.is_tame (disk_in node.old) (disk_in node.new) }
     ensures same { IsSameNode node.old node.new }

@@ -1,15 +1,25 @@
 -- The device calls of one step behind those of another.
-use Rattle.std.proofs.Common.{◌+◌, ℕ, Option, Some, None, Result, Ok, Err, true, arith}
+use Rattle.std.proofs.Common.{◌≡◌, ◌+◌, ℕ, Option, Some, None, Result, Ok, Err, true, arith, subst, sym}
 use Rattle.std.specs.Prelude.{MatchResult}
-use Rattle.arc_journal.specs.Runs.{OpensInRun}
+use Rattle.arc_journal.specs.Runs.{NoStopWithin, OpensInRun}
 use Rattle.arc_journal.specs.declared.end.JournalEnd.{JournalEnd}
 use Rattle.arc_journal.specs.declared.end.JournalEnd.TheVariants as reading
-use Rattle.arc_journal.proofs.RunLemmas.{run_behind, run_well_behind, writes_behind}
+use Rattle.arc_journal.proofs.RunLemmas.{no_run, run_behind, run_well_behind, writes_behind}
 use Rattle.arc_node.specs.Calls.{StartsInRun}
 use Rattle.arc_node.specs.declared.restart.Restart.{Restart}
 use Rattle.arc_node.specs.declared.restart.Restart.TheVariants.{Up, Full, Disk, NotOurs, Rotten, Damaged, Memory}
 
+no_stop_in_none : (stop : Option ℕ) → NoStopWithin 0 stop
+no_stop_in_none None = tt
+no_stop_in_none (Some calls) = omega arith
+
 module _ {D : Type 0} (moment faults : D → ℕ) (stops_in : D → Option ℕ) (is_tame : D → Type 0) where
+  -- a start that found no room made no call
+  pub no_start : (old new : D) (count : ℕ) → new ≡ old → StartsInRun moment faults stops_in is_tame 0 old new (Full count)
+  no_start old new count same =
+      subst (λ (disk : D). StartsInRun moment faults stops_in is_tame 0 old disk (Full count)) (sym same)
+      (no_run moment faults stops_in is_tame old, no_stop_in_none (stops_in old))
+
   -- a start behind the three calls that read the journal
   pub start_behind_reading : (old between new : D) (result : Restart) → OpensInRun moment faults stops_in is_tame 3 old between None
       → StartsInRun moment faults stops_in is_tame 0 between new result → StartsInRun moment faults stops_in is_tame 3 old new result

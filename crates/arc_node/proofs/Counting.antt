@@ -1,12 +1,9 @@
 -- What entries come to with one more behind them.
-use Rattle.std.proofs.Common.{◌≡◌, ◌≤◌, ◌<◌, ◌+◌, ◌^◌, ℕ, Bool, true, false, if◌then◌else◌, cond, List, [], ◌∷◌, ◌++◌, length, refl, ap, sym, subst, ◌∙◌, arith, length-append}
+use Rattle.std.proofs.Common.{◌≡◌, ◌≤◌, ◌<◌, ◌+◌, ◌^◌, ℕ, if◌then◌else◌, List, [], ◌∷◌, ◌++◌, length, ap, sym, subst, ◌∙◌, arith, length-append}
 use Rattle.std.specs.List.{fold}
-use Rattle.std.proofs.lemmas.List.Sums.{count_by-le-length, fold-append}
-use Rattle.arc_data.specs.Entries.{closed_len, is_closed}
+use Rattle.std.proofs.lemmas.List.Sums.{fold-append}
 use Rattle.arc_data.specs.declared.record.Record.{Record}
 use Rattle.arc_data.specs.declared.record.Record.TheVariants.{Opened, Promised, Voted, Closed}
-use Rattle.arc_voting.proofs.Growing.{count_push}
-use Rattle.arc_voting.proofs.Promises.{promise_push}
 use Rattle.arc_voting.specs.Journals.{inc_after, is_opened, last_inc, since_opened}
 use Rattle.arc_journal.specs.declared.journal.Journal.{Journal}
 use Rattle.arc_node.specs.declared.appending.Appended.{Appended}
@@ -16,25 +13,12 @@ use Rattle.arc_node.specs.Appending.{AppendsTo}
 use Rattle.arc_node.specs.Totals.{after, totals_at_end, totals_of, AreCounted}
 
 -- totals of these numbers
-abbrev made : ℕ → ℕ → ℕ → ℕ → Totals
-made l p i s = record { progress = record { length = l; promise = p }; inc = i; since = s }
+abbrev made : ℕ → ℕ → Totals
+made i s = record { inc = i; since = s }
 
 -- totals are equal where each of them is
-same_totals : (l m p q i j s t : ℕ) → l ≡ m → p ≡ q → i ≡ j → s ≡ t → made l p i s ≡ made m q j t
-same_totals l m p q i j s t ls ps is ss = cc
-
--- the closed length with one entry more
-closed_stays : (xs : List Record) (x : Record) → is_closed x ≡ false → closed_len (xs ++ x ∷ []) ≡ closed_len xs
-closed_stays xs x open_one =
-    let e : closed_len (xs ++ x ∷ []) ≡ closed_len xs + cond (is_closed x) 1 0 = count_push is_closed xs x in
-    let none : ◌≡◌ {A = ℕ} (cond (is_closed x) 1 0) 0 = ap (λ (b : Bool). cond {A = ℕ} b 1 0) open_one in
-    omega (arith, e, none)
-
-closed_grows : (xs : List Record) (x : Record) → is_closed x ≡ true → closed_len (xs ++ x ∷ []) ≡ closed_len xs + 1
-closed_grows xs x closed =
-    let e : closed_len (xs ++ x ∷ []) ≡ closed_len xs + cond (is_closed x) 1 0 = count_push is_closed xs x in
-    let one : ◌≡◌ {A = ℕ} (cond (is_closed x) 1 0) 1 = ap (λ (b : Bool). cond {A = ℕ} b 1 0) closed in
-    omega (arith, e, one)
+same_totals : (i j s t : ℕ) → i ≡ j → s ≡ t → made i s ≡ made j t
+same_totals i j s t is ss = cc
 
 -- the last start, and how many entries stand behind it
 inc_push : (xs : List Record) (x : Record) → last_inc (xs ++ x ∷ []) ≡ inc_after (last_inc xs) x
@@ -48,20 +32,12 @@ since_push xs x = fold-append (λ count entry. if is_opened entry then 0 else co
 
 -- all of it with one entry more
 pub counted_push : (xs : List Record) (x : Record) → totals_of (xs ++ x ∷ []) ≡ after (totals_of xs) x
-unfolding is_closed
-counted_push xs (Opened inc) =
-    same_totals _ _ _ _ _ _ _ _ (closed_stays xs (Opened inc) refl) (promise_push xs (Opened inc)) (inc_push xs (Opened inc)) (since_push xs (Opened inc))
-counted_push xs (Promised from ballot) =
-    same_totals _ _ _ _ _ _ _ _ (closed_stays xs (Promised from ballot) refl) (promise_push xs (Promised from ballot)) (inc_push xs (Promised from ballot)) (since_push xs (Promised from ballot))
-counted_push xs (Voted slot ballot c) =
-    same_totals _ _ _ _ _ _ _ _ (closed_stays xs (Voted slot ballot c) refl) (promise_push xs (Voted slot ballot c)) (inc_push xs (Voted slot ballot c)) (since_push xs (Voted slot ballot c))
-counted_push xs (Closed slot c) =
-    same_totals _ _ _ _ _ _ _ _ (closed_grows xs (Closed slot c) refl) (promise_push xs (Closed slot c)) (inc_push xs (Closed slot c)) (since_push xs (Closed slot c))
+counted_push xs (Opened inc) = same_totals _ _ _ _ (inc_push xs (Opened inc)) (since_push xs (Opened inc))
+counted_push xs (Promised from ballot) = same_totals _ _ _ _ (inc_push xs (Promised from ballot)) (since_push xs (Promised from ballot))
+counted_push xs (Voted slot ballot c) = same_totals _ _ _ _ (inc_push xs (Voted slot ballot c)) (since_push xs (Voted slot ballot c))
+counted_push xs (Closed slot c) = same_totals _ _ _ _ (inc_push xs (Closed slot c)) (since_push xs (Closed slot c))
 
 -- no more than there are entries
-pub few_closed : (xs : List Record) → closed_len xs ≤ length xs
-few_closed xs = count_by-le-length is_closed xs
-
 one_step : (n : ℕ) (x : Record) → since_after n x ≤ n + 1
 one_step n (Opened inc) = omega arith
 one_step n (Promised from ballot) = omega arith
@@ -78,12 +54,10 @@ pub few_since : (xs : List Record) → since_opened xs ≤ length xs
 few_since xs = let few : since_opened xs ≤ 0 + length xs = few_from 0 xs in omega (arith, few)
 
 -- so that one more can be counted
-pub counts_one_more : (entries : List Record) (t : Totals) → AreCounted entries t → length entries + 1 < 2 ^ 32
-    → (t.progress.length + 1 < 2 ^ 32) × (t.since + 1 < 2 ^ 32)
+pub counts_one_more : (entries : List Record) (t : Totals) → AreCounted entries t → length entries + 1 < 2 ^ 32 → t.since + 1 < 2 ^ 32
 counts_one_more entries t are few =
-    let l : t.progress.length ≡ closed_len entries = ap (λ (u : Totals). u.progress.length) are.counted in
     let s : t.since ≡ since_opened entries = ap (λ (u : Totals). u.since) are.counted in
-    (omega (arith, l, few_closed entries, few), omega (arith, s, few_since entries, few))
+    omega (arith, s, few_since entries, few)
 
 -- the entries of before are counted still
 still_counted : (before now : List Record) (t : Totals) → AreCounted before t → now ≡ before → AreCounted now t

@@ -1,5 +1,6 @@
 -- What a node makes of a message.
-use Rattle.std.specs.Prelude.{ℕ, ◌≡◌, ◌⊎◌, ◌<◌, ⊤, true, false, Option, None, Some, List, [], ◌∷◌, ◌++◌, length}
+use Rattle.std.specs.Prelude.{ℕ, ◌≡◌, ◌⊎◌, ◌<◌, ⊤, true, false, None, Some, List, [], ◌∷◌, ◌++◌, length}
+use Rattle.arc_acceptor.specs.Answering.{CopiesCommand}
 use Rattle.arc_bytes.specs.Counts.{HasRisen}
 use Rattle.arc_disk.specs.Disk.{LeavesOnly}
 use Rattle.arc_journal.specs.Image.{IsJournalOf}
@@ -8,6 +9,7 @@ use Rattle.arc_data.specs.declared.record.Record.{Record}
 use Rattle.arc_data.specs.declared.message.Answer.{Answer}
 use Rattle.arc_data.specs.declared.message.Message.{Message}
 use Rattle.arc_data.specs.declared.message.Message.TheVariants.{Status, Prepare, Accept, Learn}
+use Rattle.arc_voting.specs.Handled.{appended}
 use Rattle.arc_voting.specs.Turn.{Turn, IsTurn}
 use Rattle.arc_node.specs.declared.handle_end.HandleEnd.{HandleEnd}
 use Rattle.arc_node.specs.declared.handle_end.HandleEnd.TheVariants as ends
@@ -21,11 +23,6 @@ IsReceivable slots (Prepare slot ballot) = ⊤
 IsReceivable slots (Accept slot ballot command) = IsValidCommand command
 IsReceivable slots (Learn slot command) = IsValidCommand command × (slot < slots)
 
--- The list with this entry behind it, where there is one.
-abbrev pub with_appended : List Record → Option Record → List Record
-with_appended list None = list
-with_appended list (Some entry) = list ++ entry ∷ []
-
 -- The node answers by the table, and keeps what the table appends: that is on its disk.
 pub record HasAnswered {D : Type 0} (old new : Node D) (message : Message) (reply : Answer) : Type 0 where
   pub was_up : is_up old ≡ true
@@ -33,7 +30,7 @@ pub record HasAnswered {D : Type 0} (old new : Node D) (message : Message) (repl
   pub turn : Turn
   pub by_the_table : IsTurn (kept old) message turn
   pub answer : reply ≡ turn.reply
-  pub entries : kept new ≡ with_appended (kept old) turn.append
+  pub entries : kept new ≡ appended (kept old) turn.append
   pub no_doubt : doubt_of new ≡ None
 
 -- An up node went down over the entry that the table appends: the disk failed, and the entry is in doubt, or the journal
@@ -48,12 +45,20 @@ pub record HasFallen {D : Type 0} (faults : D → ℕ) (old new : Node D) (messa
       ⊎ ((length (kept old) ≡ limit_of old) × (doubt_of new ≡ None) × (disk_in new ≡ disk_in old))
 
 -- What became of the node by the end of the handling. One that isn't up stays as it is.
-abbrev pub Handles : {D : Type 0} (faults : D → ℕ) → Node D → Node D → Message → HandleEnd → Type 0
-Handles faults old new message (ends.Answered reply) = HasAnswered old new message reply
-Handles faults old new message ends.Down =
+abbrev pub EndsHandling : {D : Type 0} (faults : D → ℕ) → Node D → Node D → Message → HandleEnd → Type 0
+EndsHandling faults old new message (ends.Answered reply) = HasAnswered old new message reply
+EndsHandling faults old new message ends.Down =
     (is_up new ≡ false)
     × (((is_up old ≡ false) × (new ≡ old)) ⊎ ((is_up old ≡ true) × HasFallen faults old new message))
-Handles faults old new message ends.Memory = (is_up old ≡ true) × (is_up new ≡ true) × KeepsList old new
+EndsHandling faults old new message ends.Memory = (is_up old ≡ true) × (is_up new ≡ true) × KeepsList old new
+
+-- A turn for which a node asks for memory: it copies a command, or appends an entry.
+abbrev pub NeedsMemory : Turn → Type 0
+NeedsMemory turn = CopiesCommand turn ⊎ ((entry : Record) × (turn.append ≡ Some entry))
+
+-- Where the handling ended in want of memory, the table's turn needs some.
+abbrev pub EndsForMemory : List Record → Message → HandleEnd → Type 0
+EndsForMemory journal message result = result ≡ ends.Memory → (turn : Turn) → IsTurn journal message turn → NeedsMemory turn
 
 -- An image of a journal with the kept entries, and the one that the table appends on this message behind them.
 abbrev pub HasTurn : {D : Type 0} → Node D → Message → List ℕ → Type 0

@@ -1,13 +1,14 @@
 -- What a node keeps, and what may be on its disk.
-use Rattle.std.specs.Prelude.{ℕ, ◌≡◌, ◌<◌, ◌≤◌, ◌+◌, Bool, true, false, ⊤, Option, None, Some, List, length}
+use Rattle.std.specs.Prelude.{ℕ, ◌≡◌, ◌<◌, ◌≤◌, ◌+◌, Bool, true, false, ⊤, Option, None, Some, IfSome, List, length}
 use Rattle.arc_data.specs.declared.record.Record.{Record}
 use Rattle.arc_journal.specs.Layout.{entry_limit}
-use Rattle.arc_journal.specs.Image.{records_of, IsJournalOf}
+use Rattle.arc_journal.specs.Image.{records_of, AreWithin, IsJournalOf, IsWithin}
 use Rattle.arc_journal.specs.Journal.{disk_of, node_of, slots_of, count_of, IsSettled}
 use Rattle.arc_journal.specs.declared.journal.Journal.{Journal}
 use Rattle.arc_node.specs.declared.standing.Standing.{Standing}
 use Rattle.arc_node.specs.declared.standing.Standing.TheVariants.{Asleep, Up, Down, Retired}
 use Rattle.arc_node.specs.declared.node.Node.{Node}
+use Rattle.arc_voting.specs.Tails.{VotesAreInPlace}
 use Rattle.arc_node.specs.Comparing.{IsKeptOrWith}
 
 -- Its disk.
@@ -52,6 +53,10 @@ IsAsleep node = node.standing ≡ Asleep
 abbrev pub IsPossible : {D : Type 0} → Node D → List Record → Type 0
 IsPossible node list = IsKeptOrWith (kept node) (doubt_of node) list
 
+-- In each list that its disk may have, each vote stands at the slot that was open when it was given.
+abbrev pub HasVotesInPlace : {D : Type 0} → Node D → Type 0
+HasVotesInPlace node = (list : List Record) → IsPossible node list → VotesAreInPlace list
+
 -- An image of a journal with a possible list of the node.
 pub record MayRead {D : Type 0} (node : Node D) (image : List ℕ) : Type 0 where
   pub list : List Record
@@ -63,12 +68,15 @@ abbrev pub doubts : Option Record → ℕ
 doubts None = 0
 doubts (Some entry) = 1
 
--- The numbers of a node are within their limits: its journal takes the kept entries, and that in doubt besides.
+-- A node is within its limits: its journal takes the kept entries, and that in doubt besides, and each of these is within
+-- the limits of entries and closes no slot beyond the list.
 pub record HasLimits {D : Type 0} (node : Node D) : Type 0 where
   pub number : number_of node < 5
   pub some : 1 ≤ slots_in node
   pub most : slots_in node ≤ 16384
   pub room : length (kept node) + doubts (doubt_of node) ≤ limit_of node
+  pub within : AreWithin (slots_in node) (kept node)
+  pub doubt_within : IfSome (doubt_of node) (IsWithin (slots_in node))
 
 -- A journal has these entries, and a crash leaves just them.
 pub record HasEntries {D : Type 0} (tells : Type 0) (content : D → List ℕ) (may_leave : D → List ℕ → Type 0)

@@ -1,6 +1,5 @@
--- What a list of entries comes to.
+-- What a list of entries says of the starts of its node.
 use Rattle.std.specs.Prelude.{◌≡◌, ◌<◌, ◌+◌, ◌^◌, List, length}
-use Rattle.arc_acceptor.specs.Answering.{progress_of}
 use Rattle.arc_data.specs.declared.record.Record.{Record}
 use Rattle.arc_data.specs.declared.record.Record.TheVariants.{Opened, Promised, Voted, Closed}
 use Rattle.arc_voting.specs.Journals.{last_inc, since_opened}
@@ -10,16 +9,14 @@ use Rattle.arc_node.specs.declared.entries.Totals.{Totals}
 
 -- All of it, by walks over the list.
 abbrev pub totals_of : List Record → Totals
-totals_of entries = record { progress = progress_of entries; inc = last_inc entries; since = since_opened entries }
+totals_of entries = record { inc = last_inc entries; since = since_opened entries }
 
 -- The same with one entry more.
 abbrev pub after : Totals → Record → Totals
-after t (Opened inc) = record { progress = t.progress; inc = inc; since = 0 }
-after t (Promised from ballot) =
-    record { progress = record { length = t.progress.length; promise = ballot }; inc = t.inc; since = t.since + 1 }
-after t (Voted slot ballot c) = record { progress = t.progress; inc = t.inc; since = t.since + 1 }
-after t (Closed slot c) =
-    record { progress = record { length = t.progress.length + 1; promise = t.progress.promise }; inc = t.inc; since = t.since + 1 }
+after t (Opened inc) = record { inc = inc; since = 0 }
+after t (Promised from ballot) = record { inc = t.inc; since = t.since + 1 }
+after t (Voted slot ballot c) = record { inc = t.inc; since = t.since + 1 }
+after t (Closed slot c) = record { inc = t.inc; since = t.since + 1 }
 
 -- These totals, or those with one entry more, by how the append of that ended.
 abbrev pub totals_at_end : Totals → Totals → Appended → Totals

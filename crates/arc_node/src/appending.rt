@@ -1,5 +1,5 @@
 //! An append to a journal and to the list of its entries.
-ghost use Rattle.std.specs.Prelude.{◌≡◌, ◌<◌, ◌++◌, ◌∷◌, [], true, length, vec_len, vec_capacity};
+ghost use Rattle.std.specs.Prelude.{◌≡◌, ◌<◌, ◌++◌, ◌∷◌, [], ◌+◌, ◌^◌, true, length};
 ghost use Rattle.arc_data.specs.Valid.{IsValidRecord};
 ghost use Rattle.arc_disk.specs.Disk.{LeavesOnly};
 ghost use Rattle.arc_journal.specs.Image.{is_below};
@@ -7,9 +7,11 @@ ghost use Rattle.arc_journal.specs.Journal.{IsBeforeOrWith, IsOfSame, disk_of, n
 ghost use Rattle.arc_node.specs.Appending.{AppendsInCalls, AppendsTo};
 ghost use Rattle.arc_node.specs.Node.{HasEntries};
 
+use arc_bytes::Memory;
 use arc_data::Record;
 use arc_disk::Disk;
 use arc_journal::{AppendEnd, Journal};
+use arc_voting::Indexed;
 
 /// How an append ended.
 #[derive(Drop)]
@@ -36,9 +38,10 @@ pub(crate) enum Kept {
 }
 
 /// Puts an entry behind a list that has room for it.
-fn push_within(list: &mut Vec<Record>, entry: Record)
-    requires { vec_len list.old < vec_capacity list.old }
-    ensures { list.new.items ≡ list.old.items ++ entry ∷ [] }
+fn push_within(list: &mut Indexed, entry: Record)
+    requires room { list.old.has_room ≡ true }
+    requires few { length list.old.entries + 1 < 2 ^ 32 }
+    ensures { list.new.entries ≡ list.old.entries ++ entry ∷ [] }
 {
     match list.push(entry) {
         Ok(()) => {}
@@ -50,23 +53,24 @@ fn push_within(list: &mut Vec<Record>, entry: Record)
 /// it, so that no entry is on the disk that the list lacks.
 pub(crate) fn append_entry<D: Disk>(
     journal: &mut Journal<D>,
-    list: &mut Vec<Record>,
+    list: &mut Indexed,
     entry: Record,
 ) -> Appended
-    requires has { HasEntries D.tells D.content D.may_leave journal.old list.old.items }
+    requires has { HasEntries D.tells D.content D.may_leave journal.old list.old.entries }
     requires valid { IsValidRecord entry }
     requires below { is_below (slots_of journal.old) entry ≡ true }
+    requires few { length list.old.entries + 1 < 2 ^ 32 }
     ensures entries { AppendsTo D.tells D.content D.may_leave D.faults journal.old journal.new
-        list.old.items list.new.items entry result }
+        list.old.entries list.new.entries entry result }
     ensures any_moment { D.tells → LeavesOnly D.moment D.left_since (disk_of journal.old) (disk_of journal.new)
-        (IsBeforeOrWith (node_of journal.old) (slots_of journal.old) list.old.items entry) }
+        (IsBeforeOrWith (node_of journal.old) (slots_of journal.old) list.old.entries entry) }
     ensures calls { AppendsInCalls D.moment D.faults D.stops_in D.is_tame
         (disk_of journal.old) (disk_of journal.new) result }
     ensures same { IsOfSame journal.old journal.new }
 {
-    match list.reserve(1) {
+    match list.reserve() {
         Ok(()) => {}
-        Err(_) => {
+        Err(Memory) => {
             drop(entry);
             return Appended::Memory;
         }

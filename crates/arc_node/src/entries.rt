@@ -1,6 +1,8 @@
 //! The entries that a node keeps, with what they come to.
-ghost use Rattle.std.specs.Prelude.{◌≡◌, ◌<◌, ◌+◌, ◌^◌, [], true, length};
-ghost use Rattle.arc_acceptor.specs.Answering.{progress_of};
+ghost use Rattle.std.specs.Prelude.{◌≡◌, ◌<◌, ◌+◌, ◌^◌, [], true, length, IfOk};
+ghost use Rattle.std.specs.List.{slice_get};
+ghost use Rattle.std.specs.Option.{option_copied};
+ghost use Rattle.arc_data.specs.Entries.{closed_len, promise};
 ghost use Rattle.arc_data.specs.Valid.{IsValidRecord};
 ghost use Rattle.arc_disk.specs.Disk.{LeavesOnly};
 ghost use Rattle.arc_journal.specs.Image.{is_below};
@@ -9,29 +11,30 @@ ghost use Rattle.arc_node.specs.Appending.{AppendsInCalls, AppendsTo};
 ghost use Rattle.arc_node.specs.Node.{HasEntries};
 ghost use Rattle.arc_node.specs.Totals.{after, totals_at_end, totals_of};
 ghost use Rattle.arc_voting.specs.Journals.{last_inc, since_opened};
+ghost use Rattle.arc_voting.specs.Lists.{applied};
+ghost use Rattle.arc_voting.specs.Tails.{tail_of};
 
 use crate::appending::{Appended, append_entry};
 use crate::starts::{last_inc, since_opened};
-use arc_acceptor::Progress;
-use arc_data::Record;
+use arc_bytes::Memory;
+use arc_data::{Command, Record};
 use arc_disk::Disk;
 use arc_journal::Journal;
+use arc_voting::Indexed;
 use std::alloc::Global;
 use std::marker::Model;
 
-/// Entries in order, which contracts see as a list. What they come to is counted as they are appended, since nearly each
-/// message asks for it, and a walk over all of them would cost more with every call.
+/// Entries in order, which contracts see as a list, with a table of the slots that they close. Their starts are counted as
+/// they are appended, so that an identifier is drawn without a walk over them.
 #[derive(Drop)]
 pub(crate) struct Entries {
-    records: Vec<Record>,
+    list: Indexed,
     totals: Totals,
 }
 
-/// What a list of entries comes to.
+/// What a list of entries says of the starts of its node.
 #[derive(Clone, Copy)]
 pub(crate) struct Totals {
-    /// The closed length and the promise.
-    pub progress: Progress,
     /// The number of the last start.
     pub inc: u32,
     /// How many entries stand behind the last start.
@@ -39,15 +42,15 @@ pub(crate) struct Totals {
 }
 
 impl Model for Entries {
-    ghost use Rattle.std.specs.Prelude.{◌≡◌, ◌<◌, ◌^◌, List, length};
+    ghost use Rattle.std.specs.Prelude.{List};
     ghost use Rattle.arc_data.specs.declared.record.Record.{Record};
     ghost use Rattle.arc_node.specs.Totals.{AreCounted};
 
     ghost Value = { List Record };
 
-    ghost view = { λ e. e.records.items };
+    ghost view = { λ e. e.list.entries };
 
-    ghost invariant = { λ e. AreCounted e.records.items e.totals };
+    ghost invariant = { λ e. AreCounted e.list.entries e.totals };
 }
 
 impl Entries {
@@ -55,30 +58,57 @@ impl Entries {
     pub(crate) fn none(alloc: Global) -> Entries
         ensures { result ≡ [] }
     {
-        Entries::of(Vec::new(alloc))
+        Entries {
+            list: Indexed::new(alloc),
+            totals: Totals { inc: 0, since: 0 },
+        }
     }
 
     /// These entries.
-    pub(crate) fn of(records: Vec<Record>) -> Entries
+    pub(crate) fn of(alloc: Global, records: Vec<Record>) -> Result<Entries, Memory>
         requires { length records.items < 2 ^ 32 }
-        ensures { result ≡ records.items }
+        ensures { IfOk result (λ entries. entries ≡ records.items) }
     {
         let totals = count_all(&records);
-        Entries { records, totals }
+        match Indexed::of(alloc, records) {
+            Ok(list) => Ok(Entries { list, totals }),
+            Err(Memory) => Err(Memory),
+        }
     }
 
     /// The entries.
     pub(crate) fn as_slice(&self) -> &[Record]
         ensures { result.now ≡ self.now }
     {
-        self.records.as_slice()
+        self.list.records()
     }
 
-    /// How far they have come.
-    pub(crate) fn progress(&self) -> Progress
-        ensures { result ≡ progress_of self.now }
+    /// How many of them close a slot.
+    pub(crate) fn closed_len(&self) -> u32
+        ensures { result ≡ closed_len self.now }
     {
-        self.totals.progress
+        self.list.closed_len()
+    }
+
+    /// The last promised ballot, or 0.
+    pub(crate) fn promise(&self) -> u64
+        ensures { result ≡ promise self.now }
+    {
+        self.list.promise()
+    }
+
+    /// The command that is closed at this slot, or `None` where the list ends before it.
+    pub(crate) fn applied_at(&self, slot: u32) -> Option<&Command>
+        ensures { option_copied result ≡ slice_get (applied self.now) slot }
+    {
+        self.list.applied_at(slot)
+    }
+
+    /// The entries behind the last one that closes a slot.
+    pub(crate) fn tail(&self) -> &[Record]
+        ensures { result.now ≡ tail_of self.now }
+    {
+        self.list.tail()
     }
 
     /// The number of the last start, or 0 without one.
@@ -110,19 +140,18 @@ impl Entries {
         ensures same { IsOfSame journal.old journal.new }
     {
         let more = count_one(self.totals, &entry);
-        let appended = append_entry(journal, &mut self.records, entry);
+        let appended = append_entry(journal, &mut self.list, entry);
         self.totals = count_by_end(&appended, self.totals, more);
         appended
     }
 }
 
-/// What a list of entries comes to, by a walk over them.
+/// What a list of entries says of the starts, by a walk over them.
 fn count_all(records: &[Record]) -> Totals
     requires { length records.now < 2 ^ 32 }
     ensures { result ≡ totals_of records.now }
 {
     Totals {
-        progress: Progress::of(records),
         inc: last_inc(records),
         since: since_opened(records),
     }
@@ -140,40 +169,16 @@ fn count_by_end(appended: &Appended, totals: Totals, more: Totals) -> Totals
 
 /// What entries come to with this one behind them.
 fn count_one(totals: Totals, entry: &Record) -> Totals
-    requires length { totals.progress.length + 1 < 2 ^ 32 }
-    requires since { totals.since + 1 < 2 ^ 32 }
+    requires { totals.since + 1 < 2 ^ 32 }
     ensures { result ≡ after totals entry.now }
 {
-    let Totals {
-        progress,
-        inc,
-        since,
-    } = totals;
-    let Progress { length, promise } = progress;
+    let Totals { inc, since } = totals;
     match entry {
         Record::Opened { inc } => Totals {
-            progress,
             inc: *inc,
             since: 0,
         },
-        Record::Promised { ballot, .. } => Totals {
-            progress: Progress {
-                length,
-                promise: *ballot,
-            },
-            inc,
-            since: since + 1,
-        },
-        Record::Voted { .. } => Totals {
-            progress,
-            inc,
-            since: since + 1,
-        },
-        Record::Closed { .. } => Totals {
-            progress: Progress {
-                length: length + 1,
-                promise,
-            },
+        _ => Totals {
             inc,
             since: since + 1,
         },

@@ -8,9 +8,11 @@
 //! the one entry that is in doubt behind them.
 //!
 //! What the caller owes: commands within their limits, a slot below the greatest length of the list in what is to be
-//! learned, and an empty disk for a new node. A node that was loaded is woken once.
+//! learned, and an empty disk for a new node. A node that was loaded is woken once. A node that handles a message has each
+//! vote at the slot that was open when it was given, as sound journals have.
 #![tactic(auto)]
 
+mod answering;
 mod appending;
 mod comparing;
 mod entries;

@@ -3,33 +3,34 @@ ghost use Rattle.std.specs.Prelude.{◌≡◌, ◌≢◌, ◌≤◌, ◌<◌, �
 ghost use Rattle.std.specs.List.{slice_get};
 ghost use Rattle.std.specs.Option.{option_copied};
 ghost use Rattle.arc_bytes.specs.Counts.{HasRisen};
-ghost use Rattle.arc_data.specs.Entries.{closed_len};
+ghost use Rattle.arc_data.specs.Entries.{closed_len, promise};
 ghost use Rattle.arc_disk.specs.Calls.{IsNoCall};
 ghost use Rattle.arc_disk.specs.Disk.{Crashes, Elapses, IsUntouched, Keeps, LeavesOnly};
-ghost use Rattle.arc_journal.specs.Image.{IsCausedBy, IsJournalOf, IsNoRefusal, first_fault, is_below, records_of};
+ghost use Rattle.arc_journal.specs.Image.{AreWithin, IsCausedBy, IsJournalOf, IsNoRefusal, first_fault, is_below, records_of};
 ghost use Rattle.arc_journal.specs.Journal.{IsBeforeOrWith};
 ghost use Rattle.arc_data.specs.Valid.{IsValidRecord};
 ghost use Rattle.arc_journal.specs.Runs.{OpensInRun};
 ghost use Rattle.arc_voting.specs.Journals.{last_inc, since_opened};
 ghost use Rattle.arc_voting.specs.Lists.{applied};
+ghost use Rattle.arc_voting.specs.Tails.{VotesAreInPlace};
 ghost use Rattle.arc_node.specs.Calls.{HandlesInRun, StartsInRun};
-ghost use Rattle.arc_node.specs.Handling.{Handles, IsReceivable, LeavesHandled};
+ghost use Rattle.arc_node.specs.Handling.{EndsForMemory, EndsHandling, IsReceivable, LeavesHandled};
 ghost use Rattle.arc_node.specs.Keeping.{KeepsEntry, KeepsInRun};
-ghost use Rattle.arc_node.specs.Node.{HasEntries, HasLimits, IsAsleep, IsInOrder, IsPossible, IsSameNode, KeepsList, MayRead, disk_in, doubt_of, is_up, kept, number_of, slots_in};
+ghost use Rattle.arc_node.specs.Node.{HasEntries, HasLimits, HasVotesInPlace, IsAsleep, IsInOrder, IsPossible, IsSameNode, KeepsList, MayRead, disk_in, doubt_of, is_up, kept, number_of, slots_in};
 ghost use Rattle.arc_node.specs.Starting.{IsCreated, IsDamage, IsNoAccusation, LeavesStarted, Restarts, Starts, Wakes, restart_of};
 
+use crate::answering::turn_behind;
 use crate::appending::{Appended, Kept};
 use crate::comparing::{agreement, copy_at, is_kept_or_with};
 use crate::entries::Entries;
 use crate::standing::Standing;
 use crate::starts::opened_count;
 use crate::{HandleEnd, Restart};
-use arc_acceptor::{Turned, answer_at};
+use arc_acceptor::Turned;
 use arc_bytes::Memory;
 use arc_data::{Command, CommandId, Message, Record};
 use arc_disk::{Disk, Rig};
 use arc_journal::{Journal, JournalEnd};
-use arc_voting::applied_at;
 use std::alloc::Global;
 
 /// A node of the cluster: its journal, and the entries of that.
@@ -56,6 +57,7 @@ impl<D: Disk> Node<D> {
         requires empty { D.tells → D.content disk ≡ [] }
         ensures in_order { IfOk result (λ n. IsInOrder D.tells D.content D.may_leave n) }
         ensures created { IfOk result (λ n. IsCreated n node max_slots) }
+        ensures in_place { IfOk result (λ n. HasVotesInPlace n) }
         ensures answer { IfErr result (λ e. IsNoRefusal e.1) }
         ensures fault { IfErr result (λ e. e.1 ≡ JournalEnd.Disk → HasRisen (D.faults disk) (D.faults e.0)) }
         // Where there was no memory, the disk has no entry.
@@ -102,9 +104,13 @@ impl<D: Disk> Node<D> {
             Ok(adopted) => adopted,
             Err(end) => return Err(end),
         };
+        let entries = match Entries::of(alloc, records) {
+            Ok(entries) => entries,
+            Err(Memory) => return Err((journal.give_back(), JournalEnd::Memory)),
+        };
         Ok(Node {
             journal,
-            entries: Entries::of(records),
+            entries,
             doubt: None,
             standing: Standing::Asleep,
         })
@@ -116,6 +122,7 @@ impl<D: Disk> Node<D> {
         requires asleep { IsAsleep self.old }
         ensures in_order { IsInOrder D.tells D.content D.may_leave self.new }
         ensures wakes { Wakes D.faults self.old self.new result }
+        ensures in_place { HasVotesInPlace self.old → HasVotesInPlace self.new }
         ensures any_moment { D.tells → LeavesStarted D.moment D.left_since self.old self.new }
         ensures calls { StartsInRun D.moment D.faults D.stops_in D.is_tame 0
             (disk_in self.old) (disk_in self.new) result }
@@ -143,12 +150,16 @@ impl<D: Disk> Node<D> {
         }
     }
 
-    /// Handles a message. What it appends is on its disk before it answers. A node that isn't up does nothing.
+    /// Handles a message. What it appends is on its disk before it answers. A node that isn't up does nothing. It looks at
+    /// the votes behind its last closed slot alone, so each vote has to stand at the slot that was open when it was given.
     pub fn handle(&mut self, alloc: Global, message: &Message) -> HandleEnd
         requires in_order { IsInOrder D.tells D.content D.may_leave self.old }
         requires message { IsReceivable (slots_in self.old) message.now }
+        requires in_place { VotesAreInPlace (kept self.old) }
         ensures in_order { IsInOrder D.tells D.content D.may_leave self.new }
-        ensures handles { Handles D.faults self.old self.new message.now result }
+        ensures handles { EndsHandling D.faults self.old self.new message.now result }
+        ensures memory { EndsForMemory (kept self.old) message.now result }
+        ensures in_place { HasVotesInPlace self.old → HasVotesInPlace self.new }
         ensures any_moment { D.tells → LeavesHandled D.moment D.left_since self.old self.new message.now }
         ensures calls { HandlesInRun D.moment D.faults D.stops_in D.is_tame (kept self.old) (kept self.new)
             (disk_in self.old) (disk_in self.new) result }
@@ -165,20 +176,16 @@ impl<D: Disk> Node<D> {
         requires in_order { IsInOrder D.tells D.content D.may_leave self.old }
         requires up { is_up self.old ≡ true }
         requires message { IsReceivable (slots_in self.old) message.now }
+        requires in_place { VotesAreInPlace (kept self.old) }
         ensures in_order { IsInOrder D.tells D.content D.may_leave self.new }
-        ensures handles { Handles D.faults self.old self.new message.now result }
+        ensures handles { EndsHandling D.faults self.old self.new message.now result }
+        ensures memory { EndsForMemory (kept self.old) message.now result }
         ensures any_moment { D.tells → LeavesHandled D.moment D.left_since self.old self.new message.now }
         ensures calls { HandlesInRun D.moment D.faults D.stops_in D.is_tame (kept self.old) (kept self.new)
             (disk_in self.old) (disk_in self.new) result }
         ensures same { IsSameNode self.old self.new }
     {
-        let progress = self.entries.progress();
-        let Turned { append, reply } = match answer_at(
-            alloc,
-            self.entries.as_slice(),
-            progress,
-            message,
-        ) {
+        let Turned { append, reply } = match turn_behind(alloc, &self.entries, message) {
             Ok(turned) => turned,
             Err(Memory) => return HandleEnd::Memory,
         };
@@ -236,6 +243,7 @@ impl<D: Disk> Node<D> {
         ensures in_order { IsInOrder D.tells D.content D.may_leave self.old →
             IsInOrder D.tells D.content D.may_leave self.new }
         ensures restarts { Restarts D.tells D.content D.faults self.old self.new result }
+        ensures in_place { HasVotesInPlace self.old → HasVotesInPlace self.new }
         ensures honest { D.tells → MayRead self.old (D.content (disk_in self.old)) → IsNoAccusation result }
         ensures any_moment { D.tells → IsInOrder D.tells D.content D.may_leave self.old →
             LeavesStarted D.moment D.left_since self.old self.new }
@@ -251,7 +259,10 @@ impl<D: Disk> Node<D> {
         if !is_kept_or_with(self.entries.as_slice(), &self.doubt, &found) {
             return damaged(alloc, self.entries.as_slice(), &found);
         }
-        self.start_behind(Entries::of(found))
+        match Entries::of(alloc, found) {
+            Ok(found) => self.start_behind(found),
+            Err(Memory) => Restart::Memory,
+        }
     }
 
     /// Starts a node that is down behind the list that its journal has, and keeps that list instead of its own unless
@@ -261,6 +272,7 @@ impl<D: Disk> Node<D> {
         requires down { self.old.standing ≡ Standing.Down }
         requires has { HasEntries D.tells D.content D.may_leave self.old.journal found }
         requires possible { IsPossible self.old found }
+        requires within { AreWithin (slots_in self.old) found }
         ensures in_order { IsInOrder D.tells D.content D.may_leave self.new }
         ensures starts { Starts D.faults self.old self.new found result }
         ensures any_moment { D.tells → LeavesStarted D.moment D.left_since self.old self.new }
@@ -296,9 +308,13 @@ impl<D: Disk> Node<D> {
     pub fn crash(&mut self)
     where
         D: Rig,
+        ensures crashed { D.crashed (disk_in self.old) (disk_in self.new) }
         ensures not_up { is_up self.new ≡ false }
+        ensures down { self.new.standing ≡ Standing.Down }
         ensures same { IsSameNode self.old self.new }
         ensures kept { KeepsList self.old self.new }
+        ensures in_place { HasVotesInPlace self.old → HasVotesInPlace self.new }
+        ensures limits { HasLimits self.old → HasLimits self.new }
         ensures in_order { IsInOrder D.tells D.content D.may_leave self.old →
             IsInOrder D.tells D.content D.may_leave self.new }
         ensures stop { D.stops_in (disk_in self.new) ≡ None }
@@ -315,9 +331,12 @@ impl<D: Disk> Node<D> {
     pub fn arm(&mut self, calls: u32, fill: u8)
     where
         D: Rig,
+        ensures armed { D.armed (disk_in self.old) calls fill (disk_in self.new) }
         ensures standing { self.new.standing ≡ self.old.standing }
         ensures same { IsSameNode self.old self.new }
         ensures kept { KeepsList self.old self.new }
+        ensures in_place { HasVotesInPlace self.old → HasVotesInPlace self.new }
+        ensures limits { HasLimits self.old → HasLimits self.new }
         ensures in_order { IsInOrder D.tells D.content D.may_leave self.old →
             IsInOrder D.tells D.content D.may_leave self.new }
         ensures stop { D.stops_in (disk_in self.new) ≡ Some calls }
@@ -362,17 +381,23 @@ impl<D: Disk> Node<D> {
 
     /// How many commands are in its list.
     pub fn applied_len(&self) -> u32
-        requires { HasLimits self.now }
         ensures { result ≡ closed_len (kept self.now) }
     {
-        self.entries.progress().length
+        self.entries.closed_len()
+    }
+
+    /// The ballot that it promised last, or 0.
+    pub fn promise(&self) -> u64
+        ensures { result ≡ promise (kept self.now) }
+    {
+        self.entries.promise()
     }
 
     /// The command at this slot of its list, or `None` where the list ends before it.
     pub fn command_at(&self, slot: u32) -> Option<&Command>
         ensures { option_copied result ≡ slice_get (applied (kept self.now)) slot }
     {
-        applied_at(self.entries.as_slice(), slot)
+        self.entries.applied_at(slot)
     }
 
     /// The entries that it keeps.
@@ -420,6 +445,7 @@ fn first_start<D: Disk>(node: Node<D>) -> Result<Node<D>, (D, JournalEnd)>
     requires empty { kept node ≡ [] }
     ensures in_order { IfOk result (λ n. IsInOrder D.tells D.content D.may_leave n) }
     ensures created { IfOk result (λ n. IsCreated n (number_of node) (slots_in node)) }
+    ensures in_place { IfOk result (λ n. HasVotesInPlace n) }
     ensures answer { IfErr result (λ e. IsNoRefusal e.1) }
     ensures fault { IfErr result (λ e. e.1 ≡ JournalEnd.Disk → HasRisen (D.faults (disk_in node)) (D.faults e.0)) }
     ensures memory { D.tells → IfErr result (λ e. e.1 ≡ JournalEnd.Memory → records_of (D.content e.0) ≡ []) }

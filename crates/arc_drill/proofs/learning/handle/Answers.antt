@@ -1,3 +1,4 @@
+use Rattle.std.proofs.Common.{inl, refl}
 use Rattle.arc_node.specs.Node.{disk_in, kept}
 use Rattle.arc_drill.proofs.Disks.{since_handled}
 use Rattle.arc_drill.proofs.learning.handle.Goals as goal
@@ -11,3 +12,6 @@ returns-clause-since g c =
 
 pub returns-clause-handles : goal.returns-clause-handles
 returns-clause-handles g c = (c.handle-end.result, c.learned_of-learned.ensures, c.handle-end.ensures.handles)
+
+pub handle-end-requires-clause-in_place : goal.handle-end-requires-clause-in_place
+handle-end-requires-clause-in_place g c = c.requires.in_place (kept c.args.node.now) (inl refl)

@@ -16,6 +16,7 @@ loop-step-init g c =
       reported_none disk.tells disk.faults c.args.steps.now node (g.K.Sink.taken c.args.out.now) c.requires.created,
       omega arith,
       record { number = refl; slots = refl },
+      c.requires.in_place,
     )
 
 pub loop-step-preserved : goal.loop-step-preserved
@@ -34,6 +35,7 @@ loop-step-preserved g c =
           c.step-item.result _ invariant.3 (omega arith) c.step-item.is c.in-Ok.ensures.does written,
       omega arith,
       same_then c.args.node.now c.loop-step.node c.do_step.new.node invariant.5 c.do_step.ensures.same,
+      c.do_step.ensures.in_place,
     )
 
 pub returns-in_default-clause-wrote : goal.returns-in_default-clause-wrote
