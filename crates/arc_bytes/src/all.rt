@@ -1,5 +1,5 @@
 //! A whole input, and a whole piece of output.
-ghost use Rattle.std.specs.Prelude.{◌≡◌, ◌<◌, ◌≤◌, length, IfOk, IfSome, IsErrOf};
+ghost use Rattle.std.specs.Prelude.{◌≡◌, ◌≢◌, ◌<◌, ◌≤◌, length, Err, IfOk, IfSome, IsErrOf};
 ghost use Rattle.arc_bytes.specs.Counts.{HasCause, HasRisen};
 ghost use Rattle.arc_bytes.specs.All.{ReadsAll, WritesAll};
 
@@ -33,6 +33,8 @@ pub fn read_all<S: Source>(alloc: Global, src: &mut S, limit: usize) -> Result<V
     ensures later { S.faults src.old ≤ S.faults src.new }
     ensures failed { IsErrOf result ReadEnd.Failed →
         HasRisen (S.faults src.old) (S.faults src.new) }
+    // No other answer covers a fault.
+    ensures stays { result ≢ Err ReadEnd.Failed → S.faults src.new ≡ S.faults src.old }
 {
     let mut bytes = Vec::new(alloc);
     let mut piece = [0; PIECE];

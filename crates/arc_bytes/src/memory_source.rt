@@ -1,5 +1,5 @@
 //! A source in memory, whose failures are chosen.
-ghost use Rattle.std.specs.Prelude.{◌≡◌, ◌<◌, ◌≤◌, ◌↔◌, ◌++◌, drop, take, Some, length, min, Contains, IfOk, IsErr};
+ghost use Rattle.std.specs.Prelude.{◌≡◌, ◌<◌, ◌≤◌, ◌↔◌, ◌++◌, drop, take, Some, length, min, Contains, IfOk, IsErr, OnOk};
 ghost use Rattle.arc_bytes.specs.Counts.{HasCause};
 ghost use Rattle.arc_bytes.specs.InMemory.{after_read};
 ghost use Rattle.arc_bytes.specs.Source.{Reads};
@@ -71,6 +71,7 @@ impl Source for MemorySource {
         ensures within { IfOk result (λ n. n ≤ length buf.old) }
         ensures reads { Reads (Some self.old.left) (Some self.new.left) result buf.new }
         ensures cause { HasCause self.old.faults self.new.faults result }
+        ensures stays { OnOk result (self.new.faults ≡ self.old.faults) }
         // It fails exactly at the chosen calls, and otherwise gives as much as there is room for.
         ensures fails { IsErr result ↔ Contains self.old.failing self.old.calls }
         ensures gives { IfOk result (λ n. n ≡ min (length buf.old) (length self.old.left)) }

@@ -1,5 +1,5 @@
 //! Where bytes come from.
-ghost use Rattle.std.specs.Prelude.{◌<◌, ◌≤◌, List, ℕ, Option, length, IfOk};
+ghost use Rattle.std.specs.Prelude.{◌≡◌, ◌<◌, ◌≤◌, List, ℕ, Option, length, IfOk, OnOk};
 ghost use Rattle.arc_bytes.specs.Counts.{HasCause};
 ghost use Rattle.arc_bytes.specs.Source.{Reads};
 
@@ -19,5 +19,7 @@ pub trait Source {
         requires { 0 < length buf.old }
         ensures within { IfOk result (λ n. n ≤ length buf.old) }
         ensures reads { Reads (left self.old) (left self.new) result buf.new }
-        ensures cause { HasCause (faults self.old) (faults self.new) result };
+        ensures cause { HasCause (faults self.old) (faults self.new) result }
+        // A read that answers is no fault.
+        ensures stays { OnOk result (faults self.new ≡ faults self.old) };
 }
