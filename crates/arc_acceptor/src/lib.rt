@@ -19,6 +19,5 @@ mod table;
 mod turned;
 
 pub use laws::each_message_has_one_turn;
-pub use progress::Progress;
-pub use table::{answer, answer_at, answer_tail};
+pub use table::{answer, answer_tail};
 pub use turned::Turned;

@@ -11,7 +11,8 @@ ghost use Rattle.arc_voting.specs.Tails.{VotesAreInPlace, tail_of};
 ghost use Rattle.arc_voting.specs.Turn.{Turn, IsTurn, answers_only, promise_turn, turn_of, vote_turn};
 ghost use Rattle.arc_acceptor.specs.Answering.{IsLearnable, progress_of, turn_in, CopiesCommand, IsOutcome};
 
-use crate::{Progress, Turned};
+use crate::Turned;
+use crate::progress::Progress;
 use arc_bytes::Memory;
 use arc_data::{Answer, Command, Message, Record, top_vote};
 use arc_voting::{applied_at, holds_vote, votes_stay_in_place};
@@ -25,22 +26,7 @@ pub fn answer(alloc: Global, rs: &[Record], m: &Message) -> Result<Turned, Memor
     ensures table { IfOk result (λ turned. IsTurn rs.now m.now (turn_in turned)) }
     ensures memory { OnErr result ((turn : Turn) → IsTurn rs.now m.now turn → CopiesCommand turn) }
 {
-    answer_at(alloc, rs, Progress::of(rs), m)
-}
-
-/// The same by one who knows how far the entries have come, so that what is learned needs no walk over them.
-pub fn answer_at(
-    alloc: Global,
-    rs: &[Record],
-    progress: Progress,
-    m: &Message,
-) -> Result<Turned, Memory>
-    requires entries { length rs.now < 2 ^ 32 }
-    requires slot { IsLearnable m.now }
-    requires progress { progress ≡ progress_of rs.now }
-    ensures table { IfOk result (λ turned. IsTurn rs.now m.now (turn_in turned)) }
-    ensures memory { OnErr result ((turn : Turn) → IsTurn rs.now m.now turn → CopiesCommand turn) }
-{
+    let progress = Progress::of(rs);
     match m {
         Message::Status { slot } => status(alloc, progress, applied_at(rs, *slot), *slot),
         Message::Prepare { slot, ballot } => {

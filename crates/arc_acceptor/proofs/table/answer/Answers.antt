@@ -2,7 +2,7 @@
 use Rattle.std.proofs.Common.{sym, subst}
 use Rattle.arc_data.specs.declared.message.Message.{Message}
 use Rattle.arc_acceptor.proofs.Outcomes.{IsOfTable, table_here, memory_here, asked_of}
-use Rattle.arc_acceptor.proofs.table.answer_at.Goals as goal
+use Rattle.arc_acceptor.proofs.table.answer.Goals as goal
 
 pub returns-in-Accept-clause-table : goal.returns-in-Accept-clause-table
 returns-in-Accept-clause-table c =
@@ -10,7 +10,7 @@ returns-in-Accept-clause-table c =
     table_here c.args.rs.now c.args.m.now c.accept.result
     (subst P (sym c.in-Accept.is)
     (asked_of c.args.rs.now c.in-Accept.slot c.in-Accept.ballot c.in-Accept.command c.accept.result
-    (λ stands tells. c.accept.ensures stands tells c.args.rs.now c.requires.progress (sym c.applied_at-in-Accept.ensures))))
+    (λ stands tells. c.accept.ensures stands tells c.args.rs.now c.of-progress.ensures (sym c.applied_at-in-Accept.ensures))))
 
 pub returns-in-Accept-clause-memory : goal.returns-in-Accept-clause-memory
 returns-in-Accept-clause-memory c =
@@ -18,4 +18,4 @@ returns-in-Accept-clause-memory c =
     memory_here c.args.rs.now c.args.m.now c.accept.result
     (subst P (sym c.in-Accept.is)
     (asked_of c.args.rs.now c.in-Accept.slot c.in-Accept.ballot c.in-Accept.command c.accept.result
-    (λ stands tells. c.accept.ensures stands tells c.args.rs.now c.requires.progress (sym c.applied_at-in-Accept.ensures))))
+    (λ stands tells. c.accept.ensures stands tells c.args.rs.now c.of-progress.ensures (sym c.applied_at-in-Accept.ensures))))
