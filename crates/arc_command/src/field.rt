@@ -150,7 +150,7 @@ fn read_items<T: Field>(
 ) -> Result<(List<T>, usize), CommandEnd>
     ensures { Gives result (items_at T.reading [] count bytes.now start) }
 {
-    let mut items = Vec::new(alloc);
+    let mut items = Vec::with_capacity(alloc, count as usize)?;
     let mut at = start;
     for _ in 0..count {
         let (item, after) = T::read(alloc, bytes, at, items.as_slice())?;
