@@ -15,7 +15,7 @@ use Rattle.arc_journal.specs.Image.{body_len, body_in, stored_digest, entry_len,
 
 -- ---- numbers in four bytes
 
-small_drop : (n : ℕ) (xs : List ℕ) → ((i : ℕ) → get_or xs i 0 < 256) → (i : ℕ) → get_or (drop n xs) i 0 < 256
+pub small_drop : (n : ℕ) (xs : List ℕ) → ((i : ℕ) → get_or xs i 0 < 256) → (i : ℕ) → get_or (drop n xs) i 0 < 256
 small_drop zero xs small i = small i
 small_drop (suc n) [] small i = small i
 small_drop (suc n) (x ∷ xs) small i = small_drop n xs (λ k. small (suc k)) i
@@ -129,11 +129,11 @@ split n bytes =
     ∙ ap (λ (l : List ℕ). l ++ drop (n + 36) bytes)
     (ap (λ (m : ℕ). take m bytes) same ∙ take-add (4 + n) 32 bytes ∙ ap (λ (l : List ℕ). l ++ take 32 (drop (4 + n) bytes)) (take-add 4 n bytes))
 
-module _ (slots : ℕ) (r : Record) (bytes body stored : List ℕ) (small : (i : ℕ) → get_or bytes i 0 < 256) where
+module _ (slots : ℕ) (r : Record) (bytes body : List ℕ) (small : (i : ℕ) → get_or bytes i 0 < 256) where
   pub entry_is : is_whole bytes ≡ true → body ≡ body_in bytes
-      → stored ≡ take (36 + length body - (4 + length body)) (drop (4 + length body) bytes) → stored ≡ sha256 body
+      → stored_digest bytes ≡ sha256 (body_in bytes)
       → record_of body ≡ Some r → body ≡ record_bytes r → is_below slots r ≡ true → IsEntry slots r bytes
-  entry_is whole is_body is_stored right reads spelled below =
+  entry_is whole is_body right reads spelled below =
       let n = body_len bytes in
       let sizes = whole_means n (length bytes) whole in
       let long : n ≤ length (drop 4 bytes) = omega (arith, length-drop 4 bytes, sizes.2) in
@@ -142,9 +142,7 @@ module _ (slots : ℕ) (r : Record) (bytes body stored : List ℕ) (small : (i :
       let there : 0 + 4 ≤ length bytes = omega (arith, sizes.2) in
       let number : take 4 bytes ≡ number_bytes w32 (length (record_bytes r)) = number_there 0 bytes small there ∙ ap (number_bytes w32) (sym same) in
       let body_there : take n (drop 4 bytes) ≡ record_bytes r = sym is_body ∙ spelled in
-      let width : 36 + length body - (4 + length body) ≡ 32 = omega arith in
-      let digest_there : take 32 (drop (4 + n) bytes) ≡ sha256 (record_bytes r) =
-      ap (λ (k : ℕ). take 32 (drop (4 + k) bytes)) (sym len) ∙ ap (λ (k : ℕ). take k (drop (4 + length body) bytes)) (sym width) ∙ sym is_stored ∙ right ∙ ap sha256 spelled in
+      let digest_there : take 32 (drop (4 + n) bytes) ≡ sha256 (record_bytes r) = right ∙ ap sha256 (sym is_body ∙ spelled) in
       record {
         kept = record {
           some = omega (arith, same, sizes.0);

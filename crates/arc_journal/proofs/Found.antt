@@ -1,21 +1,21 @@
 -- What is found in an image of a journal, and what an append makes of it.
-use Rattle.std.proofs.Common.{◌≡◌, ◌≢◌, ◌⊎◌, inl, inr, ⊎_elim, ℕ, suc, ◌+◌, ◌^◌, ◌≤◌, ◌<◌, nat_lt, nat_le, ◌&&◌, ◌==◌, if◌then◌else◌, true, false, Option, None, Some, List, [], ◌∷◌, ◌++◌, length, take, drop, map, refl, sym, ◌∙◌, ap, subst, arith, append_assoc, length-append}
+use Rattle.std.proofs.Common.{◌≡◌, ◌≢◌, ◌⊎◌, inl, inr, ⊎_elim, ℕ, ◌+◌, ◌≤◌, ◌<◌, nat_lt, nat_le, ◌&&◌, true, false, Option, None, Some, List, [], ◌∷◌, ◌++◌, length, take, drop, map, refl, sym, ◌∙◌, ap, subst, arith, append_assoc, length-append}
 use Rattle.std.proofs.lemmas.List.{take_at, drop_at}
 use Rattle.std.proofs.lemmas.Bool.Decides.{nat_tests}
 use Rattle.std.proofs.lemmas.Slice.Eq.{bytes_eq-Decides}
-use Rattle.std.specs.Int.{w32, from_be_bytes}
 use Rattle.std.specs.List.{filter_map, cons_option}
 use Rattle.std.specs.Str.{bytes_eq}
 use Rattle.sha2.specs.Sha256.{sha256}
-use Rattle.arc_bytes.specs.Numbers.{number_bytes}
 use Rattle.arc_data.specs.declared.record.Record.{Record}
 use Rattle.arc_command.specs.Spelling.{record_bytes}
 use Rattle.arc_journal.specs.Bodies.{record_of}
-use Rattle.arc_journal.specs.Layout.{signature, head, sealed, entries, entry_limit, IsImageOf}
+use Rattle.arc_journal.specs.Layout.{head, sealed, entries, entry_limit, IsImageOf}
 use Rattle.arc_journal.specs.Torn.{staged, opened, TornInTurn}
-use Rattle.arc_journal.specs.Image.{Entry, body_len, body_in, stored_digest, entry_len, entries_from, entries_of, records_of, is_whole, is_below_or_none, entry_fault, first_of, fault_in, common, slots_in, head_fault, first_fault, AreKept, IsKept, IsJournalOf}
+use Rattle.arc_journal.specs.Image.{Entry, body_len, body_in, stored_digest, entry_len, entries_from, entries_of, records_of, is_whole, is_below_or_none, entry_fault, first_of, fault_in, slots_in, first_fault, AreKept, IsKept, IsJournalOf}
 use Rattle.arc_journal.proofs.Appending.{staged_keeps, torn_in_turn, opened_counts}
-use Rattle.arc_journal.proofs.Entries.{length-number, number_back, length-sealed, body_len-sealed, body_in-sealed, stored-sealed, drop-sealed}
+use Rattle.arc_journal.proofs.Entries.{length-sealed, body_len-sealed, body_in-sealed, stored-sealed, drop-sealed}
+use Rattle.arc_journal.proofs.Heads.{length-head, no_head_fault, slots_named}
+use Rattle.arc_journal.specs.Views.{BeginsWithHead}
 use Rattle.arc_journal.proofs.Walking.{at_open, at_closed, kept_push, length-push, map-push}
 
 -- ---- entries that stand there are found
@@ -90,23 +90,6 @@ faultless slots count place (r ∷ records) gate ignored closed (one, others) ro
     ∙ ap (λ f. first_of f (fault_in slots (count + 1) (entries_from 0 next rest))) (tests_pass slots count place r rest one below some)
     ∙ faultless slots (count + 1) next records gate ignored closed others later
 
--- ---- the head
-
-pub length-head : (node slots : ℕ) → length (head node slots) ≡ 16
-length-head node slots = omega (arith, length-append (signature node) (number_bytes w32 slots), length-number slots)
-
-common-same : (xs ys : List ℕ) → common xs (xs ++ ys) ≡ length xs
-common-same [] ys = refl
-common-same (x ∷ xs) ys = same_heads x (common xs (xs ++ ys)) (common-same xs ys)
-  where
-    same_heads : (y n : ℕ) → n ≡ length xs → (if y == y then n + 1 else 0) ≡ suc (length xs)
-    same_heads y n is = grind (arith, nat_tests)
-
-no_head_fault : (node : ℕ) (image : List ℕ) → common (signature node) image ≡ 12 → 16 < length image → 1 ≤ slots_in image → slots_in image ≤ 16384
-    → head_fault node image ≡ None
-unfolding head_fault
-no_head_fault node image same long some most = grind (arith, nat_tests)
-
 -- ---- an image of a journal
 
 module _ (node slots : ℕ) (records : List Record) (image : List ℕ) (journal : IsJournalOf node slots records image) where
@@ -125,24 +108,24 @@ module _ (node slots : ℕ) (records : List Record) (image : List ℕ) (journal 
       ap (λ (l : List ℕ). filter_map spelled (entries_from 0 16 l)) behind_head
       ∙ records_back slots 16 records journal.bytes.gate journal.bytes.ignored journal.bytes.closed journal.kept
 
+  -- it begins with its head
+  pub begins : BeginsWithHead node slots image
+  begins = record {
+    some = journal.some;
+    most = journal.most;
+    bytes = ap (λ (l : List ℕ). take 16 l) parted ∙ take_at (head node slots) behind 16 (length-head node slots);
+  }
+
   pub journal_slots : slots_in image ≡ slots
-  journal_slots =
-      let fits : slots < 2 ^ 32 = omega (arith, journal.most) in
-      ap (λ (l : List ℕ). from_be_bytes w32 (take 4 (drop 12 l))) (parted ∙ append_assoc (signature node) (number_bytes w32 slots) behind)
-      ∙ ap (λ (l : List ℕ). from_be_bytes w32 (take 4 l)) (drop_at (signature node) (number_bytes w32 slots ++ behind) 12 refl)
-      ∙ ap (from_be_bytes w32) (take_at (number_bytes w32 slots) behind 4 (length-number slots)) ∙ number_back slots fits
+  journal_slots = slots_named node slots image begins
 
   pub journal_faultless : first_fault node image ≡ None
   unfolding first_fault
   journal_faultless =
-      let signed : common (signature node) image ≡ 12 =
-      ap (common (signature node)) (parted ∙ append_assoc (signature node) (number_bytes w32 slots) behind) ∙ common-same (signature node) (number_bytes w32 slots ++ behind) in
       let long : 16 < length image =
       omega (arith, ap length parted, length-append (head node slots) behind, length-head node slots, length-append (entries (map record_bytes records)) (journal.bytes.gate ∷ journal.bytes.ignored)) in
-      let some : 1 ≤ slots_in image = omega (arith, journal_slots, journal.some) in
-      let most : slots_in image ≤ 16384 = omega (arith, journal_slots, journal.most) in
       let room : 0 + length records ≤ entry_limit slots = omega (arith, journal.within) in
-      ap (λ f. first_of f (fault_in (slots_in image) 0 (entries_of image))) (no_head_fault node image signed long some most)
+      ap (λ f. first_of f (fault_in (slots_in image) 0 (entries_of image))) (sym (no_head_fault node slots image begins long))
       ∙ ap (λ (n : ℕ). fault_in n 0 (entries_of image)) journal_slots
       ∙ ap (λ (l : List ℕ). fault_in slots 0 (entries_from 0 16 l)) behind_head
       ∙ faultless slots 0 16 records journal.bytes.gate journal.bytes.ignored journal.bytes.closed journal.kept room

@@ -5,7 +5,11 @@ pub mod Appending
 pub mod Commons
 pub mod Entries
 pub mod Faults
+pub mod Heads
 pub mod Walking
+pub mod Views
+pub mod Steps
+pub mod Shown
 pub mod Found
 pub mod Standing
 pub mod OpeningLemmas

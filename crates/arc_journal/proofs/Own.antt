@@ -1,5 +1,5 @@
 -- A reading of a journal of one node and one greatest length of the list.
-use Rattle.std.proofs.Common.{◌≡◌, ◌≢◌, ℕ, nat_eq, Bool, true, false, if◌then◌else◌, List, Option, None, Some, refl, sym, ◌∙◌, ap, arith}
+use Rattle.std.proofs.Common.{◌≡◌, ◌≢◌, ℕ, nat_eq, if◌then◌else◌, List, Option, None, Some, refl, sym, ◌∙◌, arith}
 use Rattle.std.proofs.lemmas.Bool.Decides.{nat_tests}
 use Rattle.arc_data.specs.declared.record.Record.{Record}
 use Rattle.arc_journal.specs.Image.{IsCausedBy, IsJournalOf, first_fault, first_of, own_fault, slots_in}

@@ -8,7 +8,8 @@ use Rattle.arc_journal.specs.Torn.{staged, opened, TornInTurn, IsGateShut}
 use Rattle.arc_journal.specs.Image.{records_of, IsKept, IsJournalOf}
 use Rattle.arc_journal.specs.Journal.{disk_of, node_of, slots_of, count_of, place_of, Stands, IsBeforeOrWith}
 use Rattle.arc_journal.specs.declared.journal.Journal.{Journal}
-use Rattle.arc_journal.proofs.Found.{length-head, journal_records, appended_in_turn, appended_behind, appended_at_last}
+use Rattle.arc_journal.proofs.Found.{journal_records, appended_in_turn, appended_behind, appended_at_last}
+use Rattle.arc_journal.proofs.Heads.{length-head}
 use Rattle.arc_journal.proofs.Walking.{length-push, spelled_push}
 
 module _ {D : Type 0} (content : D → List ℕ) (may_leave : D → List ℕ → Type 0) where

@@ -1,5 +1,5 @@
 //! A journal.
-ghost use Rattle.std.specs.Prelude.{◌≡◌, ◌≢◌, ◌≤◌, ◌+◌, ◌<◌, ◌++◌, ◌∷◌, ◌↔◌, ℕ, List, [], true, length, IfOk, IfErr, OnOk, OnErr, MatchResult, Some, None};
+ghost use Rattle.std.specs.Prelude.{◌≡◌, ◌≢◌, ◌≤◌, nat_le, ◌+◌, ◌<◌, ◌++◌, ◌∷◌, ◌↔◌, ℕ, List, [], true, length, IfOk, IfErr, OnOk, OnErr, MatchResult, Some, None};
 ghost use Rattle.arc_bytes.specs.Counts.{HasRisen};
 ghost use Rattle.arc_disk.specs.Calls.{IsNoCall};
 ghost use Rattle.arc_disk.specs.Disk.{Crashes, Elapses, IsUntouched, Keeps, LeavesOnly, Only};
@@ -217,6 +217,14 @@ impl<D: Disk> Journal<D> {
         ensures { result ≡ count_of self.now }
     {
         self.count
+    }
+
+    /// Whether it has as many entries as it takes.
+    pub fn is_full(&self) -> bool
+        requires { slots_of self.now ≤ 16384 }
+        ensures { result ≡ nat_le (entry_limit (slots_of self.now)) (count_of self.now) }
+    {
+        self.count >= entry_limit(self.max_slots)
     }
 
     /// The greatest length of the node's list.

@@ -6,6 +6,13 @@
 //! The law that it keeps: at each moment since an append began, a crash leaves a journal with the entries from before, or
 //! with the new one behind them; after its Ok, with the new one alone. Opening a journal finds exactly those entries.
 //!
+//! An image is what the bytes of a disk show of a journal: its head, and views of its records, each a range of the image, in
+//! order and apart. The walk over them tests the head, and of each entry its length and its digest; what a body says it doesn't
+//! read. Opening a journal is that walk, and reads each body where it lies. So an opening holds one image, that which the disk
+//! gives, and the records: `Image`, `Records` and `RecordView` are lent the bytes and are handed no allocator, so that they
+//! can't take memory; what is handed one is the reading of the image, once, and that of each record. `bench/journal` shows the
+//! bytes that are held.
+//!
 //! What the caller owes: a node below 5 and 1 to 16,384 slots; an empty disk for a new journal; entries within their
 //! limits, with slots below the greatest length of the list; and no append behind one that met a fault of the disk.
 //!
@@ -21,8 +28,12 @@
 mod bodies;
 mod device;
 mod end;
+mod image;
 mod journal;
 mod reading;
+mod view;
 
-pub use end::{AppendEnd, JournalEnd};
+pub use end::{AppendEnd, ImageFault, JournalEnd};
+pub use image::{Image, Records};
 pub use journal::Journal;
+pub use view::RecordView;

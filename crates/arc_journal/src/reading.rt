@@ -1,15 +1,19 @@
 //! What the bytes of an image say.
-ghost use Rattle.std.specs.Prelude.{◌≡◌, ◌++◌, ◌∷◌, [], ◌+◌, ◌*◌, ◌≤◌, ◌<◌, ℕ, true, false, length, map, take, vec_len, slice_index, ◌≢◌, MatchOption, IfErr, IfOk, OnOk};
-ghost use Rattle.arc_journal.specs.Image.{AreKept, AreWithin, IsCausedBy, IsEntry, IsJournalOf, IsReadTo, IsWithin, body_in, common, entries_of, entry_fault, fault_in, first_fault, head_fault, own_fault, is_below, is_whole, slots_in};
+ghost use Rattle.std.specs.Prelude.{◌≡◌, ◌++◌, ◌∷◌, [], ◌+◌, ◌*◌, ◌≤◌, ◌<◌, ℕ, length, map, vec_len, slice_index, ◌≢◌, Some, IfErr, IfOk, OnErr, OnOk};
+ghost use Rattle.arc_journal.specs.Faults.{end_of, end_of_look};
+ghost use Rattle.arc_journal.specs.Views.{BeginsWithHead, record_fault, seen_by};
+ghost use Rattle.arc_journal.specs.Bodies.{record_of};
+ghost use Rattle.arc_journal.specs.Image.{AreKept, AreWithin, IsCausedBy, IsJournalOf, IsReadTo, IsWithin, common, entries_of, fault_in, first_fault, head_fault, own_fault, is_below, slots_in};
 ghost use Rattle.arc_journal.specs.Layout.{entries, entry_limit, head, signature};
 ghost use Rattle.arc_journal.specs.Runs.{ending_of};
 ghost use Rattle.arc_command.specs.Spelling.{record_bytes};
 
-use crate::JournalEnd;
 use crate::bodies::{BodyEnd, read_body};
+use crate::image::Records;
+use crate::view::RecordView;
+use crate::{ImageFault, JournalEnd};
 use arc_bytes::{Memory, take_u32};
 use arc_command::Record;
-use sha2::{Digest, Sha256};
 use std::alloc::Global;
 
 /// The length of the head, in bytes.
@@ -51,47 +55,43 @@ fn common(left: &[u8], right: &[u8]) -> usize
     left.len()
 }
 
-/// The greatest length of the list, as the head has it.
+/// The greatest length of the list, as the head has it, whatever stands behind the head.
 #[tactic(auto, unfolding(crate::specs::Image::head_fault, arc_bytes::specs::Numbers::number_at))]
-fn read_head(image: &[u8], node: u8) -> Result<u32, JournalEnd>
-    ensures own { IfErr result (λ e. e ≢ JournalEnd.Disk) }
-    ensures fault { ending_of result ≡ head_fault node image.now }
+pub(crate) fn read_slots(image: &[u8], node: u8) -> Result<u32, ImageFault>
+    ensures fault { IfErr result (λ e. Some (end_of e) ≡ head_fault node image.now) }
     ensures slots { IfOk result (λ n. n ≡ slots_in image.now) }
-    ensures range { IfOk result (λ n. (1 ≤ n) × (n ≤ 16384)) }
-    ensures head { IfOk result (λ n. take 16 image.now ≡ head node n) }
-    ensures gate { OnOk result (16 < length image.now) }
+    ensures head { IfOk result (λ n. BeginsWithHead node n image.now) }
+    ensures other { OnErr result ((slots : ℕ) → BeginsWithHead node slots image.now → ⊥) }
 {
     let same = common(&signature(node), image);
     if same < 12 {
-        return Err(JournalEnd::NotOurs { place: same as u64 });
+        return Err(ImageFault::NotOurs { place: same as u64 });
     }
     let Ok((max_slots, _)) = take_u32(image, 12) else {
         let place = image.len() as u64;
-        return Err(JournalEnd::NotOurs { place });
+        return Err(ImageFault::NotOurs { place });
     };
     if max_slots == 0 || max_slots > MOST_SLOTS {
-        return Err(JournalEnd::NotOurs { place: 12 });
-    }
-    if image.len() == HEAD_LEN {
-        return Err(JournalEnd::NotOurs { place: 16 });
+        return Err(ImageFault::NotOurs { place: 12 });
     }
     Ok(max_slots)
 }
 
-/// The body behind a gate, where its length is in its range and the whole entry and a gate behind it are there.
-#[tactic(auto, unfolding(arc_bytes::specs::Numbers::number_at))]
-fn whole_body(bytes: &[u8]) -> Option<&[u8]>
-    ensures { MatchOption result (is_whole bytes.now ≡ false)
-        (λ body. (is_whole bytes.now ≡ true) × (body.now ≡ body_in bytes.now)) }
+/// The same, where a gate stands behind the head.
+pub(crate) fn read_head(image: &[u8], node: u8) -> Result<u32, ImageFault>
+    ensures fault { end_of_look result ≡ head_fault node image.now }
+    ensures slots { IfOk result (λ n. n ≡ slots_in image.now) }
+    ensures head { IfOk result (λ n. BeginsWithHead node n image.now) }
+    ensures gate { OnOk result (16 < length image.now) }
 {
-    let Ok((len, _)) = take_u32(bytes, 0) else {
-        return None;
+    let max_slots = match read_slots(image, node) {
+        Ok(max_slots) => max_slots,
+        Err(fault) => return Err(fault),
     };
-    let len = len as usize;
-    if len == 0 || len > 1037 || bytes.len() <= len + 36 {
-        return None;
+    if image.len() == HEAD_LEN {
+        return Err(ImageFault::NotOurs { place: 16 });
     }
-    Some(&bytes[4..4 + len])
+    Ok(max_slots)
 }
 
 /// Whether the record closes no slot from this one on.
@@ -104,37 +104,23 @@ pub(crate) fn is_below(entry: &Record, max_slots: u32) -> bool
     }
 }
 
-/// The record of an entry whose gate is at this place, and before which so many entries stand; and how many bytes the
-/// entry has behind its gate.
-fn read_entry(
+/// The record of an entry that is seen, and before which so many stand.
+#[tactic(auto, unfolding(crate::specs::Views::record_fault))]
+fn read_view(
     alloc: Global,
-    bytes: &[u8],
-    place: usize,
+    view: &RecordView<'_>,
     max_slots: u32,
     count: u32,
-) -> Result<(Record, usize), JournalEnd>
+) -> Result<Record, JournalEnd>
     requires { max_slots ≤ 16384 }
     ensures own { IfErr result (λ e. e ≢ JournalEnd.Disk) }
-    ensures fault { IsCausedBy (ending_of result) (entry_fault max_slots count (record { place = place; bytes = bytes.now })) }
-    ensures entry { IfOk result (λ r. IsEntry max_slots r.0 bytes.now) }
-    ensures within { IfOk result (λ r. IsWithin max_slots r.0) }
-    ensures len { IfOk result (λ r. r.1 ≡ length (record_bytes r.0) + 36) }
+    ensures fault { IsCausedBy (ending_of result) (record_fault max_slots count (seen_by view.now)) }
+    ensures read { IfOk result (λ r. record_of view.now.body.now ≡ Some r) }
+    ensures spelled { IfOk result (λ r. view.now.body.now ≡ record_bytes r) }
+    ensures within { IfOk result (IsWithin max_slots) }
     ensures room { OnOk result (count < entry_limit max_slots) }
 {
-    let place = place as u64;
-    let Some(body) = whole_body(bytes) else {
-        return Err(JournalEnd::NotOurs { place });
-    };
-    let mut stored = [0u8; 32];
-    stored.copy_from_slice(&bytes[4 + body.len()..36 + body.len()]);
-    let computed = Sha256::digest(body);
-    if stored != computed {
-        return Err(JournalEnd::Rotten {
-            place,
-            stored,
-            computed,
-        });
-    }
+    let RecordView { place, body } = *view;
     let entry = match read_body(alloc, body) {
         Ok(entry) => entry,
         Err(BodyEnd::NoRecord) => return Err(JournalEnd::NotOurs { place }),
@@ -148,7 +134,7 @@ fn read_entry(
         drop(entry);
         return Err(JournalEnd::NotOurs { place });
     }
-    Ok((entry, body.len() + 36))
+    Ok(entry)
 }
 
 /// Keeps one item more.
@@ -158,6 +144,42 @@ fn keep<T: Drop>(items: &mut Vec<T>, item: T) -> Result<(), Memory>
     match items.push(item) {
         Ok(()) => Ok(()),
         Err(_) => Err(Memory),
+    }
+}
+
+/// Reads the records of an image, each where it lies, and gives the place of the gate that ends them.
+fn read_records(
+    alloc: Global,
+    image: &[u8],
+    max_slots: u32,
+    records: &mut Vec<Record>,
+) -> Result<usize, JournalEnd>
+    requires none { records.old.items ≡ [] }
+    requires gate { 16 < length image.now }
+    requires most { max_slots ≤ 16384 }
+    ensures own { IfErr result (λ e. e ≢ JournalEnd.Disk) }
+    ensures fault { IsCausedBy (ending_of result) (fault_in max_slots 0 (entries_of image.now)) }
+    ensures read { IfOk result (λ end. IsReadTo max_slots records.new.items end image.now) }
+    ensures within { OnOk result (AreWithin max_slots records.new.items) }
+    ensures closed { IfOk result (λ end. slice_index image.now end ≢ 1) }
+{
+    let mut views = Records::behind_head(image);
+    loop {
+        let Some(view) = views.step() else {
+            return match views.fault {
+                None => Ok(views.place),
+                Some(fault) => Err(JournalEnd::of(fault)),
+            };
+        };
+        let count = records.len() as u32;
+        let entry = match read_view(alloc, &view, max_slots, count) {
+            Ok(entry) => entry,
+            Err(end) => return Err(end),
+        };
+        match keep(records, entry) {
+            Ok(()) => {}
+            Err(Memory) => return Err(JournalEnd::Memory),
+        }
     }
 }
 
@@ -176,20 +198,10 @@ fn read_entries(
     ensures closed { IfOk result (λ r. slice_index image.now r.1 ≢ 1) }
 {
     let mut records = Vec::new(alloc);
-    let mut place = HEAD_LEN;
-    while image[place] == OPEN {
-        let count = records.len() as u32;
-        let (entry, len) = match read_entry(alloc, &image[place + 1..], place, max_slots, count) {
-            Ok(entry) => entry,
-            Err(end) => return Err(end),
-        };
-        match keep(&mut records, entry) {
-            Ok(()) => {}
-            Err(Memory) => return Err(JournalEnd::Memory),
-        }
-        place += 1 + len;
+    match read_records(alloc, image, max_slots, &mut records) {
+        Ok(end) => Ok((records, end)),
+        Err(end) => Err(end),
     }
-    Ok((records, place))
 }
 
 /// What an image says that is a journal of this node.
@@ -214,7 +226,7 @@ pub(crate) fn read_journal(alloc: Global, image: &[u8], node: u8) -> Result<Open
 {
     let max_slots = match read_head(image, node) {
         Ok(max_slots) => max_slots,
-        Err(end) => return Err(end),
+        Err(fault) => return Err(JournalEnd::of(fault)),
     };
     let (records, end) = match read_entries(alloc, image, max_slots) {
         Ok(read) => read,

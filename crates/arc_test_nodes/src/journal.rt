@@ -84,7 +84,7 @@ fn damaged(alloc: Global, place: usize, byte: u8) -> Result<Option<JournalEnd>, 
 
 /// What is wrong with these bytes: nothing, another journal's byte at a place, or a rotten entry that begins there.
 #[derive(Clone, Copy, Debug, PartialEq, Eq)]
-enum Found {
+pub(crate) enum Found {
     Sound,
     NotOurs(u64),
     Rotten(u64),

@@ -1,5 +1,5 @@
-//! Tests of one node and its journal: the bytes of a new node, what is found in damaged bytes, what a crash leaves of an
-//! append, and a node that is loaded.
+//! Tests of one node and its journal: the bytes of a new node, what is seen and found in damaged bytes, what a crash leaves
+//! of an append, and a node that is loaded.
 //!
 //! They stand apart from the crates that they test, so that those are proved once, and not once more with their tests. What a
 //! drill shows of nodes, and of disks that stop in one, is told by the stories and by `arc_test_drill`.
@@ -8,6 +8,8 @@
 //! what is handed to them. It exports nothing, and no promise rests on it.
 #![tactic(auto)]
 
+#[cfg(test)]
+mod image;
 #[cfg(test)]
 mod journal;
 #[cfg(test)]

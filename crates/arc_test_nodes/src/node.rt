@@ -18,6 +18,7 @@ fn the_bytes_of_a_new_node(rt: HostRuntime) -> Result<(), Fail> {
     assert_eq!(rt; node.max_slots(), 4096);
     assert_eq!(rt; node.faults(), 0);
     assert_eq!(rt; node.applied_len(), 0);
+    assert_eq!(rt; node.promise(), 0);
     assert_eq!(rt; node.records().len(), 1);
     let disk = node.give_back();
     assert_eq!(rt; disk.bytes(), WORKED.as_slice());

@@ -4,8 +4,8 @@ use Rattle.arc_journal.proofs.reading.read_journal.Goals as goal
 
 pub returns-clause-journal : goal.returns-clause-journal
 returns-clause-journal c =
-    let range = c.in-Ok.ensures.range in
-    is_journal c.args.node c.in-Ok.max_slots c.in-Ok-read_entries.read.0.items c.in-Ok-read_entries.read.1 c.args.image.now range.0 range.1 c.in-Ok.ensures.head c.in-Ok-read_entries.ensures.read c.in-Ok-read_entries.ensures.closed
+    let begins = c.in-Ok.ensures.head in
+    is_journal c.args.node c.in-Ok.max_slots c.in-Ok-read_entries.read.0.items c.in-Ok-read_entries.read.1 c.args.image.now begins.some begins.most begins.bytes c.in-Ok-read_entries.ensures.read c.in-Ok-read_entries.ensures.closed
 
 pub returns-clause-end : goal.returns-clause-end
 returns-clause-end c =
