@@ -2,6 +2,7 @@ pub mod Agreements
 pub mod Orders
 pub mod Behind
 pub mod Turning
+pub mod Telling
 pub mod Counting
 pub mod Limits
 pub mod Restarting

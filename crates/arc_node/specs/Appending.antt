@@ -11,7 +11,8 @@ use Rattle.arc_node.specs.declared.appending.Appended.TheVariants.{Done, Doubtfu
 use Rattle.arc_node.specs.Node.{HasEntries}
 
 -- The list has the entry behind it and the journal has the list; or the list stays. Then the journal has it still, unless
--- the disk failed: what is left then has the list, or the list with the entry.
+-- the disk failed: what is left then has the list, or the list with the entry. A full journal is told as such: the disk
+-- fails, and memory is wanted, only where it has room.
 abbrev pub AppendsTo : {D : Type 0} (tells : Type 0) (content : D → List ℕ) (may_leave : D → List ℕ → Type 0)
     (faults : D → ℕ) → Journal D → Journal D → List Record → List Record → Record → Appended → Type 0
 AppendsTo tells content may_leave faults old new before after entry Done =
@@ -25,7 +26,7 @@ AppendsTo tells content may_leave faults old new before after entry (Doubtful lo
 AppendsTo tells content may_leave faults old new before after entry (Full count) =
     (new ≡ old) × (after ≡ before) × (count ≡ length before) × (count ≡ entry_limit (slots_of old))
 AppendsTo tells content may_leave faults old new before after entry Memory =
-    HasEntries tells content may_leave new after × (after ≡ before)
+    HasEntries tells content may_leave new after × (after ≡ before) × (length before < entry_limit (slots_of old))
 
 -- The device calls of an append, by how it ended.
 abbrev pub AppendsInCalls : {D : Type 0} (moment faults : D → ℕ) (stops_in : D → Option ℕ) (is_tame : D → Type 0)

@@ -1,5 +1,5 @@
 -- What a node makes of a message.
-use Rattle.std.specs.Prelude.{ℕ, ◌≡◌, ◌⊎◌, ◌<◌, ⊤, true, false, None, Some, List, [], ◌∷◌, ◌++◌, length}
+use Rattle.std.specs.Prelude.{ℕ, ◌≡◌, ◌⊎◌, ◌<◌, ⊤, true, false, None, Some, IfSome, List, [], ◌∷◌, ◌++◌, length}
 use Rattle.arc_acceptor.specs.Answering.{CopiesCommand}
 use Rattle.arc_bytes.specs.Counts.{HasRisen}
 use Rattle.arc_disk.specs.Disk.{LeavesOnly}
@@ -7,6 +7,7 @@ use Rattle.arc_journal.specs.Image.{IsJournalOf}
 use Rattle.arc_data.specs.Valid.{IsValidCommand}
 use Rattle.arc_data.specs.declared.record.Record.{Record}
 use Rattle.arc_data.specs.declared.message.Answer.{Answer}
+use Rattle.arc_data.specs.declared.message.Answer.TheVariants.{At, Known, Behind, Refused, Promise, Accepted, Learned}
 use Rattle.arc_data.specs.declared.message.Message.{Message}
 use Rattle.arc_data.specs.declared.message.Message.TheVariants.{Status, Prepare, Accept, Learn}
 use Rattle.arc_voting.specs.Handled.{appended}
@@ -22,6 +23,16 @@ IsReceivable slots (Status slot) = ⊤
 IsReceivable slots (Prepare slot ballot) = ⊤
 IsReceivable slots (Accept slot ballot command) = IsValidCommand command
 IsReceivable slots (Learn slot command) = IsValidCommand command × (slot < slots)
+
+-- Each command that an answer tells is within its limits: the one that is closed at a slot, or that of a vote.
+abbrev pub TellsValid : Answer → Type 0
+TellsValid (At length ballot known) = IfSome known IsValidCommand
+TellsValid (Known slot command) = IsValidCommand command
+TellsValid (Behind length) = ⊤
+TellsValid (Refused ballot) = ⊤
+TellsValid (Promise slot ballot vote) = IfSome vote (λ told. IsValidCommand told.1)
+TellsValid (Accepted slot ballot) = ⊤
+TellsValid (Learned length) = ⊤
 
 -- The node answers by the table, and keeps what the table appends: that is on its disk.
 pub record HasAnswered {D : Type 0} (old new : Node D) (message : Message) (reply : Answer) : Type 0 where
@@ -52,13 +63,15 @@ EndsHandling faults old new message ends.Down =
     × (((is_up old ≡ false) × (new ≡ old)) ⊎ ((is_up old ≡ true) × HasFallen faults old new message))
 EndsHandling faults old new message ends.Memory = (is_up old ≡ true) × (is_up new ≡ true) × KeepsList old new
 
--- A turn for which a node asks for memory: it copies a command, or appends an entry.
-abbrev pub NeedsMemory : Turn → Type 0
-NeedsMemory turn = CopiesCommand turn ⊎ ((entry : Record) × (turn.append ≡ Some entry))
+-- A turn for which a node asks for memory: it copies a command, or appends an entry for which the journal has room.
+abbrev pub NeedsMemory : {D : Type 0} → Node D → Turn → Type 0
+NeedsMemory node turn =
+    CopiesCommand turn ⊎ ((entry : Record) × (turn.append ≡ Some entry) × (length (kept node) < limit_of node))
 
 -- Where the handling ended in want of memory, the table's turn needs some.
-abbrev pub EndsForMemory : List Record → Message → HandleEnd → Type 0
-EndsForMemory journal message result = result ≡ ends.Memory → (turn : Turn) → IsTurn journal message turn → NeedsMemory turn
+abbrev pub EndsForMemory : {D : Type 0} → Node D → Message → HandleEnd → Type 0
+EndsForMemory node message result =
+    result ≡ ends.Memory → (turn : Turn) → IsTurn (kept node) message turn → NeedsMemory node turn
 
 -- An image of a journal with the kept entries, and the one that the table appends on this message behind them.
 abbrev pub HasTurn : {D : Type 0} → Node D → Message → List ℕ → Type 0

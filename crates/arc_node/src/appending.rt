@@ -22,7 +22,7 @@ pub(crate) enum Appended {
     Doubtful(Record),
     /// The journal has as many entries as it takes.
     Full { count: u32 },
-    /// There was no memory left, and nothing has changed.
+    /// There was no memory left, though the journal has room, and nothing has changed.
     Memory,
 }
 
@@ -33,7 +33,7 @@ pub(crate) enum Kept {
     Done,
     /// The node isn't up any more: its disk failed, or its journal is full.
     Fallen,
-    /// There was no memory left, and nothing has changed.
+    /// There was no memory left, though the journal has room, and nothing has changed.
     Memory,
 }
 
@@ -49,8 +49,8 @@ fn push_within(list: &mut Indexed, entry: Record)
     }
 }
 
-/// Appends an entry to a journal, and then to the list of its entries. The list has room for it before the journal has
-/// it, so that no entry is on the disk that the list lacks.
+/// Appends an entry to a journal, and then to the list of its entries. A full journal is told before any memory is asked
+/// for. The list has room for the entry before the journal has it, so that no entry is on the disk that the list lacks.
 pub(crate) fn append_entry<D: Disk>(
     journal: &mut Journal<D>,
     list: &mut Indexed,
@@ -68,6 +68,11 @@ pub(crate) fn append_entry<D: Disk>(
         (disk_of journal.old) (disk_of journal.new) result }
     ensures same { IsOfSame journal.old journal.new }
 {
+    let count = journal.count();
+    if journal.is_full() {
+        drop(entry);
+        return Appended::Full { count };
+    }
     match list.reserve() {
         Ok(()) => {}
         Err(Memory) => {
@@ -78,10 +83,7 @@ pub(crate) fn append_entry<D: Disk>(
     match journal.append(&entry) {
         Ok(()) => {}
         Err(AppendEnd::Disk) => return Appended::Doubtful(entry),
-        Err(AppendEnd::Full { count }) => {
-            drop(entry);
-            return Appended::Full { count };
-        }
+        Err(AppendEnd::Full { .. }) => unreachable!(),
         Err(AppendEnd::Memory) => {
             drop(entry);
             return Appended::Memory;

@@ -8,8 +8,8 @@
 //! the one entry that is in doubt behind them.
 //!
 //! What the caller owes: commands within their limits, a slot below the greatest length of the list in what is to be
-//! learned, and an empty disk for a new node. A node that was loaded is woken once. A node that handles a message has each
-//! vote at the slot that was open when it was given, as sound journals have.
+//! learned, and an empty disk for a new node. A node that was loaded is woken once, and handles messages only if each of
+//! its votes stands at the slot that was open when it was given: that is so of a new node, and each call keeps it so.
 #![tactic(auto)]
 
 mod answering;

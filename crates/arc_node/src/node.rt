@@ -1,5 +1,5 @@
 //! A node.
-ghost use Rattle.std.specs.Prelude.{◌≡◌, ◌≢◌, ◌≤◌, ◌<◌, ◌^◌, ◌↔◌, ℕ, List, [], Option, Some, None, true, false, IsTrue, length, IfErr, IfOk, MatchResult};
+ghost use Rattle.std.specs.Prelude.{◌≡◌, ◌≢◌, ◌≤◌, ◌<◌, ◌^◌, ◌↔◌, ℕ, List, [], Option, Some, None, true, false, IsTrue, length, IfErr, IfOk, IfSome, MatchResult};
 ghost use Rattle.std.specs.List.{slice_get};
 ghost use Rattle.std.specs.Option.{option_copied};
 ghost use Rattle.arc_bytes.specs.Counts.{HasRisen};
@@ -8,13 +8,14 @@ ghost use Rattle.arc_disk.specs.Calls.{IsNoCall};
 ghost use Rattle.arc_disk.specs.Disk.{Crashes, Elapses, IsUntouched, Keeps, LeavesOnly};
 ghost use Rattle.arc_journal.specs.Image.{AreWithin, IsCausedBy, IsJournalOf, IsNoRefusal, first_fault, is_below, records_of};
 ghost use Rattle.arc_journal.specs.Journal.{IsBeforeOrWith};
-ghost use Rattle.arc_data.specs.Valid.{IsValidRecord};
+ghost use Rattle.arc_data.specs.Valid.{IsValidCommand, IsValidRecord};
+ghost use Rattle.arc_data.specs.declared.message.Answer.{Answer};
 ghost use Rattle.arc_journal.specs.Runs.{OpensInRun};
 ghost use Rattle.arc_voting.specs.Journals.{last_inc, since_opened};
 ghost use Rattle.arc_voting.specs.Lists.{applied};
 ghost use Rattle.arc_voting.specs.Tails.{VotesAreInPlace};
 ghost use Rattle.arc_node.specs.Calls.{HandlesInRun, StartsInRun};
-ghost use Rattle.arc_node.specs.Handling.{EndsForMemory, EndsHandling, IsReceivable, LeavesHandled};
+ghost use Rattle.arc_node.specs.Handling.{EndsForMemory, EndsHandling, IsReceivable, LeavesHandled, TellsValid};
 ghost use Rattle.arc_node.specs.Keeping.{KeepsEntry, KeepsInRun};
 ghost use Rattle.arc_node.specs.Node.{HasEntries, HasLimits, HasVotesInPlace, IsAsleep, IsInOrder, IsPossible, IsSameNode, KeepsList, MayRead, disk_in, doubt_of, is_up, kept, number_of, slots_in};
 ghost use Rattle.arc_node.specs.Starting.{IsCreated, IsDamage, IsNoAccusation, LeavesStarted, Restarts, Starts, Wakes, restart_of};
@@ -32,6 +33,7 @@ use arc_data::{Command, CommandId, Message, Record};
 use arc_disk::{Disk, Rig};
 use arc_journal::{Journal, JournalEnd};
 use std::alloc::Global;
+use std::mem;
 
 /// A node of the cluster: its journal, and the entries of that.
 #[derive(Drop)]
@@ -158,7 +160,8 @@ impl<D: Disk> Node<D> {
         requires in_place { VotesAreInPlace (kept self.old) }
         ensures in_order { IsInOrder D.tells D.content D.may_leave self.new }
         ensures handles { EndsHandling D.faults self.old self.new message.now result }
-        ensures memory { EndsForMemory (kept self.old) message.now result }
+        ensures memory { EndsForMemory self.old message.now result }
+        ensures valid { (reply : Answer) → result ≡ HandleEnd.Answered reply → TellsValid reply }
         ensures in_place { HasVotesInPlace self.old → HasVotesInPlace self.new }
         ensures any_moment { D.tells → LeavesHandled D.moment D.left_since self.old self.new message.now }
         ensures calls { HandlesInRun D.moment D.faults D.stops_in D.is_tame (kept self.old) (kept self.new)
@@ -179,7 +182,7 @@ impl<D: Disk> Node<D> {
         requires in_place { VotesAreInPlace (kept self.old) }
         ensures in_order { IsInOrder D.tells D.content D.may_leave self.new }
         ensures handles { EndsHandling D.faults self.old self.new message.now result }
-        ensures memory { EndsForMemory (kept self.old) message.now result }
+        ensures memory { EndsForMemory self.old message.now result }
         ensures any_moment { D.tells → LeavesHandled D.moment D.left_since self.old self.new message.now }
         ensures calls { HandlesInRun D.moment D.faults D.stops_in D.is_tame (kept self.old) (kept self.new)
             (disk_in self.old) (disk_in self.new) result }
@@ -284,23 +287,26 @@ impl<D: Disk> Node<D> {
         let inc = opened_count(list.as_slice()) + 1;
         match list.append(&mut self.journal, Record::Opened { inc }) {
             Appended::Done => {
-                self.entries = list;
+                keep(&mut self.entries, list);
                 drop(self.doubt.take());
                 self.standing = Standing::Up;
                 Restart::Up { inc }
             }
             Appended::Doubtful(entry) => {
-                self.entries = list;
+                keep(&mut self.entries, list);
                 put(&mut self.doubt, entry);
                 Restart::Disk
             }
             Appended::Full { count } => {
-                self.entries = list;
+                keep(&mut self.entries, list);
                 drop(self.doubt.take());
                 self.standing = Standing::Retired;
                 Restart::Full { count }
             }
-            Appended::Memory => Restart::Memory,
+            Appended::Memory => {
+                drop(list);
+                Restart::Memory
+            }
         }
     }
 
@@ -395,7 +401,8 @@ impl<D: Disk> Node<D> {
 
     /// The command at this slot of its list, or `None` where the list ends before it.
     pub fn command_at(&self, slot: u32) -> Option<&Command>
-        ensures { option_copied result ≡ slice_get (applied (kept self.now)) slot }
+        ensures told { option_copied result ≡ slice_get (applied (kept self.now)) slot }
+        ensures valid { HasLimits self.now → IfSome result (λ command. IsValidCommand command.now) }
     {
         self.entries.applied_at(slot)
     }
@@ -460,6 +467,13 @@ fn first_start<D: Disk>(node: Node<D>) -> Result<Node<D>, (D, JournalEnd)>
         Restart::Memory => Err((node.give_back(), JournalEnd::Memory)),
         _ => unreachable!(),
     }
+}
+
+/// Keeps these entries in place of those that were kept.
+fn keep(kept: &mut Entries, entries: Entries)
+    ensures { kept.new ≡ entries }
+{
+    drop(mem::replace(kept, entries));
 }
 
 /// Leaves an entry in doubt.

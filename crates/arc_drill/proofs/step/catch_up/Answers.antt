@@ -17,10 +17,10 @@ apply-requires-clause-room g c =
 
 pub returns-in_default : goal.returns-in_default
 returns-in_default g c =
-    let known = rw (c.in_default.is, c.count.ensures) at c.command_at.ensures in
+    let known = rw (c.in_default.is, c.count.ensures) at c.command_at.ensures.told in
     caught_none c.args.state.now (applied (kept c.args.node.now)) c.requires.behind (sym known)
 
 pub returns : goal.returns
 returns g c =
-    let known = rw (c.in-Some.is, c.count.ensures) at c.command_at.ensures in
+    let known = rw (c.in-Some.is, c.count.ensures) at c.command_at.ensures.told in
     caught_some c.args.state.now c.apply.new.self (applied (kept c.args.node.now)) c.in-Some.command.now _ c.requires.behind (sym known) c.in_ok-apply.ensures.applies

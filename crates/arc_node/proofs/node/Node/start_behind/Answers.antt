@@ -1,5 +1,5 @@
 -- The list that was found is within its limits, and so it is with the start behind it.
-use Rattle.std.proofs.Common.{rules, refl}
+use Rattle.std.proofs.Common.{◌∙◌, rules, refl}
 use Rattle.arc_journal.specs.Journal.{disk_of}
 use Rattle.arc_node.specs.Node.{disk_in}
 use Rattle.arc_node.proofs.Behind.{no_start}
@@ -13,7 +13,7 @@ returns-in-Done-clause-in_order g c = record {
     some = search rules;
     most = search rules;
     room = search rules;
-    within = within_more _ _ c.args.found c.append.new.self _ c.in-Done.ensures.same.slots c.in-Done.ensures.entries.1 c.requires.within (tt, refl);
+    within = within_more _ _ c.args.found c.keep.new.kept _ c.in-Done.ensures.same.slots (c.keep.ensures ∙ c.in-Done.ensures.entries.1) c.requires.within (tt, refl);
     doubt_within = search rules;
   };
   known = search rules;

@@ -98,4 +98,4 @@ pub returns-in-Memory-clause-memory : goal.returns-in-Memory-clause-memory
 returns-in-Memory-clause-memory g c = λ is turn of.
     let only = (one_turn (kept c.args.self.now) c.args.message.now).2 in
     let same : turn ≡ turn_in c.in-Ok.turned = only turn of ∙ sym (only (turn_in c.in-Ok.turned) c.in-Ok.ensures.table) in
-    inr (c.in-Some.entry, ap (λ (t : Turn). t.append) same ∙ c.in-Some.is)
+    inr (c.in-Some.entry, ap (λ (t : Turn). t.append) same ∙ c.in-Some.is, c.in-Memory.ensures.keeps.2)
