@@ -93,16 +93,21 @@ pub fn append(rt: &(impl AllocGlobal + Files), body: &[u8], path: Option<&String
     let Ok(Some(disk)) = filled_by(rt.alloc(), body) else {
         return 0;
     };
-    if let Some(path) = path
-        && fs::write(rt, path.as_str(), disk.bytes()).is_err()
-    {
-        return 0;
+    let size = write(rt, path, disk.bytes());
+    drop(disk);
+    size
+}
+
+/// Writes bytes to the file with this name, where there is one, and counts them; 0 where that failed.
+fn write(rt: &impl Files, path: Option<&String>, bytes: &[u8]) -> usize {
+    match path {
+        Some(path) if fs::write(rt, path.as_str(), bytes).is_err() => 0,
+        _ => bytes.len(),
     }
-    disk.bytes().len()
 }
 
 /// A disk in memory with these bytes.
-fn disk_of(alloc: Global, bytes: &[u8]) -> Result<MemoryDisk, Memory> {
+pub fn disk_of(alloc: Global, bytes: &[u8]) -> Result<MemoryDisk, Memory> {
     let bytes = Vec::from_slice(alloc, bytes)?;
     MemoryDisk::from_bytes(alloc, bytes, Vec::new(alloc))
 }
@@ -112,8 +117,11 @@ pub fn adopt(alloc: Global, bytes: &[u8]) -> usize {
     let Ok(disk) = disk_of(alloc, bytes) else {
         return 0;
     };
-    match Journal::adopt(alloc, disk, 0) {
-        Ok((_, records)) => records.len(),
-        Err(_) => 0,
-    }
+    let Ok((journal, records)) = Journal::adopt(alloc, disk, 0) else {
+        return 0;
+    };
+    let count = records.len();
+    drop(records);
+    drop(journal);
+    count
 }

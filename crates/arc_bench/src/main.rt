@@ -7,6 +7,7 @@ mod http;
 mod journal;
 mod json;
 mod measured;
+mod node;
 mod turn;
 
 use crate::measured::measured;
@@ -18,7 +19,7 @@ fn main(rt: HostRuntime) -> io::Result<()> {
     let start = Instant::now(&rt)?;
     let words = env::args(&rt)?;
     let Some(count) = measured(&rt, words) else {
-        return println!(rt; "measurements: audit, http, journal, json, turn");
+        return println!(rt; "measurements: audit, http, journal, json, node, turn");
     };
     let nanos = start.elapsed(&rt)?.as_nanos();
     println!(rt; "nanoseconds {nanos} count {count}")

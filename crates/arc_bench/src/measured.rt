@@ -1,5 +1,6 @@
 //! What the words name.
-use crate::{audit, http, journal, json, turn};
+use crate::{audit, http, journal, json, node, turn};
+use std::alloc::Global;
 use std::env::Args;
 use std::fs;
 use std::rt::Files;
@@ -30,7 +31,7 @@ fn bytes_of(rt: &(impl AllocGlobal + Files), path: Option<String>) -> Vec<u8> {
     }
 }
 
-/// How much was done.
+/// How much was done, by what takes turns or writes a file, and else by what needs memory alone.
 fn count_of<R: AllocGlobal + Files + Threads + Wait + Sync>(
     rt: &R,
     name: &str,
@@ -39,19 +40,29 @@ fn count_of<R: AllocGlobal + Files + Threads + Wait + Sync>(
 ) -> usize {
     let alloc = rt.alloc();
     match name {
-        "audit-shorter" => audit::audits(alloc, 667),
-        "audit-longer" => audit::audits(alloc, 2667),
-        "http" => http::read(alloc),
-        "httparse" => http::parse(alloc),
         "append" => journal::append(rt, bytes, path),
-        "adopt" => journal::adopt(alloc, bytes),
-        "batch" => json::read(alloc, "UpdateRoutingControlStates", bytes),
-        "rule" => json::read(alloc, "CreateSafetyRule", bytes),
-        "json" => json::parse(alloc, bytes),
         "turn" => turn::turns(rt, alloc, 1),
         "turns" => turn::turns(rt, alloc, 4),
         "lock" => turn::locks(rt, alloc, 1),
         "locks" => turn::locks(rt, alloc, 4),
+        _ => count_in_memory(alloc, name, bytes),
+    }
+}
+
+/// How much was done by what needs memory alone.
+fn count_in_memory(alloc: Global, name: &str, bytes: &[u8]) -> usize {
+    match name {
+        "audit-shorter" => audit::audits(alloc, 667),
+        "audit-longer" => audit::audits(alloc, 2667),
+        "http" => http::read(alloc),
+        "httparse" => http::parse(alloc),
+        "adopt" => journal::adopt(alloc, bytes),
+        "batch" => json::read(alloc, "UpdateRoutingControlStates", bytes),
+        "node-shorter" => node::votes(alloc, 2500),
+        "node-longer" => node::votes(alloc, 10_000),
+        "open" => node::open(alloc, bytes),
+        "rule" => json::read(alloc, "CreateSafetyRule", bytes),
+        "json" => json::parse(alloc, bytes),
         _ => 0,
     }
 }

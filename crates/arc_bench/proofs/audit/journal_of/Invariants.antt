@@ -1,5 +1,5 @@
 -- Three entries a slot.
-use Rattle.std.proofs.Common.{◌≤◌, ◌≡◌, ◌+◌, ◌*◌, vec_len}
+use Rattle.std.proofs.Common.{◌≤◌, ◌+◌, ◌*◌, vec_len}
 use Rattle.arc_bench.proofs.audit.journal_of.Given as goal
 
 abbrev pub invariant-loop-slot : goal.invariant-loop-slot
