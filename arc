@@ -11,7 +11,7 @@ here=$(cd "$(dirname "$(readlink -f "${BASH_SOURCE[0]}")")" && pwd)
 source "$here/programs.sh"
 
 if [ "$*" = build ]; then
-  build arc_main
+  build arc
   exit
 fi
 
@@ -21,13 +21,13 @@ if [ $# -eq 2 ] && [ "$1" = drill ] && [ "${2#-}" = "$2" ]; then
   set -- drill
 fi
 
-if is_built arc_main; then
-  if is_older arc_main; then
+if is_built arc; then
+  if is_older arc; then
     echo "arc: sources changed since this program was built; ./arc build proves and builds them" >&2
   fi
-  exec "$(program_of arc_main)" "$@"
+  exec "$(program_of arc)" "$@"
 fi
 
 echo "arc: this run isn't the proved program: it compiles the same sources without a proof, in about a minute and a half" >&2
 echo "arc: ./arc build proves and builds the program, from nothing in about half an hour on four processors; after that it runs at once" >&2
-try_unproved arc_main -- "$@"
+try_unproved arc -- "$@"

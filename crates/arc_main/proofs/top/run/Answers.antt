@@ -1,7 +1,7 @@
 use Rattle.std.proofs.Common.{rules, refl}
 use Rattle.arc_drill.proofs.Disks.{since_same}
 use Rattle.arc_main.proofs.Words.{no_status_2}
-use Rattle.arc_main.proofs.run.run.Goals as goal
+use Rattle.arc_main.proofs.top.run.Goals as goal
 
 pub returns-then-not-is_drill-clause-quiet : goal.returns-then-not-is_drill-clause-quiet
 returns-then-not-is_drill-clause-quiet g c =

@@ -1,24 +1,16 @@
 //! The program `arc`: `arc drill` reads a script from standard input and writes its report to standard output.
 //!
-//! It stands on `arc_drill`. `run` has all that matters, over an outside and five disks that are handed in; `main` makes the
-//! real outside and five disks in memory.
-//!
-//! The promise that `run` carries is the drill's theorem, over the bytes that its outside tells and over the disks.
+//! It stands on `arc_main`, whose `run` has all that matters, with the drill's theorem. Here the real outside and five empty
+//! disks in memory are made and handed to it.
 #![tactic(auto)]
 
 ghost use Rattle.arc_disk.specs.MemoryDisk.{NoneFails, content_of, disk_stops_in, faults_of};
 ghost use Rattle.arc_drill.specs.Drilled.{AreEmpty};
 ghost use Rattle.arc_drill.specs.Since.{IsQuiet};
 
-mod memory_outside;
-mod outside;
-mod run;
-mod standard;
-
-use crate::run::run;
-use crate::standard::{Standard, words_of};
 use arc_bytes::{Five, StreamSink};
 use arc_disk::MemoryDisk;
+use arc_main::{Standard, run, words_of};
 use std::alloc::Global;
 use std::process::ExitCode;
 

@@ -2,7 +2,7 @@ use Rattle.std.proofs.Common.{◌∙◌, ap, arith}
 use Rattle.std.specs.Prelude.{codes, nat_eq}
 use Rattle.std.specs.Cmp.Lexicographic.{pointwise}
 use Rattle.arc_main.proofs.Words.{one_word}
-use Rattle.arc_main.proofs.run.is_drill.Goals as goal
+use Rattle.arc_main.proofs.top.is_drill.Goals as goal
 
 pub returns-in-len1 : goal.returns-in-len1
 returns-in-len1 c =
