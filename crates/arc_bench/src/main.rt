@@ -3,6 +3,7 @@
 #![tactic(auto)]
 
 mod audit;
+mod cluster;
 mod http;
 mod journal;
 mod json;
@@ -19,7 +20,7 @@ fn main(rt: HostRuntime) -> io::Result<()> {
     let start = Instant::now(&rt)?;
     let words = env::args(&rt)?;
     let Some(count) = measured(&rt, words) else {
-        return println!(rt; "measurements: audit, http, journal, json, node, turn");
+        return println!(rt; "measurements: audit, cluster, http, journal, json, node, turn");
     };
     let nanos = start.elapsed(&rt)?.as_nanos();
     println!(rt; "nanoseconds {nanos} count {count}")

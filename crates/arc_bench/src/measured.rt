@@ -1,5 +1,5 @@
 //! What the words name.
-use crate::{audit, http, journal, json, node, turn};
+use crate::{audit, cluster, http, journal, json, node, turn};
 use std::alloc::Global;
 use std::env::Args;
 use std::fs;
@@ -54,6 +54,9 @@ fn count_in_memory(alloc: Global, name: &str, bytes: &[u8]) -> usize {
     match name {
         "audit-shorter" => audit::audits(alloc, 667),
         "audit-longer" => audit::audits(alloc, 2667),
+        "cluster-shorter" => cluster::attempts(alloc, bytes, 1024),
+        "cluster-longer" => cluster::attempts(alloc, bytes, 4096),
+        "cluster-bytes" => cluster::bytes(alloc, bytes, 4096),
         "http" => http::read(alloc),
         "httparse" => http::parse(alloc),
         "adopt" => journal::adopt(alloc, bytes),
