@@ -31,3 +31,4 @@ pub mod Digits
 pub mod Sending
 pub mod Placing
 pub mod Counts
+pub mod Bounds

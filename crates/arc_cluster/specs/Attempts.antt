@@ -32,6 +32,12 @@ voted_count entries = count_by is_voted entries
 abbrev pub GivesNone : List Record → List Record → Type 0
 GivesNone before after = (promised_count after ≡ promised_count before) × (voted_count after ≡ voted_count before)
 
+-- Each list got at most so many promises and votes.
+abbrev pub GivesAtMost : {D : Type 0} → (promises votes : ℕ) → Five (Node D) → Five (Node D) → Type 0
+GivesAtMost promises votes old new = (node : ℕ) → node < 5 →
+    (promised_count (kept (at new node)) ≤ promised_count (kept (at old node)) + promises)
+    × (voted_count (kept (at new node)) ≤ voted_count (kept (at old node)) + votes)
+
 -- A node was clear: it was up throughout, its disk didn't fail, and no exchange with it met trouble.
 pub record IsClear {D C : Type 0} (faults : D → ℕ) (troubles : C → ℕ → ℕ) (old new : Cluster D C) (node : ℕ) : Type 0 where
   pub was_up : is_up (at old.nodes node) ≡ true

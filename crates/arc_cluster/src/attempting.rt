@@ -8,7 +8,7 @@ ghost use Rattle.arc_proposer.specs.Laws.{HasMajority};
 ghost use Rattle.arc_proposer.specs.Proposing.{HasNoneCounted, begun, proposed_by};
 ghost use Rattle.arc_cluster.specs.declared.attempt.Attempt.TheVariants.{Placed, Other, NodeDown};
 ghost use Rattle.arc_cluster.specs.declared.attempt.Attempt.TheVariants as ends;
-ghost use Rattle.arc_cluster.specs.Attempts.{EndsAttempt, IsFullExactly, MetTroubleOnce, StaysSilent, is_peer, most_asked};
+ghost use Rattle.arc_cluster.specs.Attempts.{EndsAttempt, GivesAtMost, IsFullExactly, MetTroubleOnce, StaysSilent, is_peer, most_asked};
 ghost use Rattle.arc_cluster.specs.Cluster.{IsInOrder};
 ghost use Rattle.arc_cluster.specs.Coming.{ClosesFrom, Ended, EndsFrom, asks_left, asks_left_to_tell};
 ghost use Rattle.arc_cluster.specs.Onward.{AsksAtMost, ClusterGoesOn};
@@ -39,6 +39,7 @@ impl<D: Disk, C: Courier + Drop> Cluster<D, C> {
         ensures silent { StaysSilent C.is_silent self.old self.new node c.now result }
         ensures asked { AsksAtMost (C.asked self.old.courier) (C.asked self.new.courier) (most_asked self.old.nodes node) }
         ensures once { MetTroubleOnce C.troubles self.old.courier self.new.courier result }
+        ensures bounds { GivesAtMost 1 2 self.old.nodes self.new.nodes }
     {
         let own = self.nodes.get(node);
         let slot = own.applied_len();
@@ -79,6 +80,7 @@ impl<D: Disk, C: Courier + Drop> Cluster<D, C> {
         requires own { MayBeAttempted self.old.nodes node c.now }
         ensures in_order { IsInOrder D.tells D.content D.may_leave self.new }
         ensures ended { Ended D.faults D.stops_in D.is_tame C.troubles C.is_silent C.asked self.old self.new node c.now result }
+        ensures bounds { GivesAtMost 1 2 self.old.nodes self.new.nodes }
     {
         let mut proposer = proposer;
         let mut work = self.begin(node, slot);
@@ -131,6 +133,7 @@ impl<D: Disk, C: Courier + Drop> Cluster<D, C> {
         requires own { MayBeAttempted self.old.nodes work.old.endpoint c.now }
         ensures in_order { IsInOrder D.tells D.content D.may_leave self.new }
         ensures ended { Ended D.faults D.stops_in D.is_tame C.troubles C.is_silent C.asked self.old self.new work.old.endpoint c.now result }
+        ensures bounds { GivesAtMost 1 2 self.old.nodes self.new.nodes }
     {
         let endpoint = work.endpoint;
         match self.ask(alloc, work, proposer) {
@@ -153,6 +156,7 @@ impl<D: Disk, C: Courier + Drop> Cluster<D, C> {
         ensures in_order { IsInOrder D.tells D.content D.may_leave self.new }
         ensures ends { ClosesFrom D.faults D.stops_in D.is_tame C.troubles C.is_silent C.asked self.old self.new work.now c.now command.now
             (asks_left 0 work.now) result }
+        ensures bounds { GivesAtMost 0 0 self.old.nodes self.new.nodes }
     {
         match self.learn_own(alloc, work, command) {
             Ok(true) => placed(work.slot, command, c),
@@ -181,6 +185,7 @@ impl<D: Disk, C: Courier + Drop> Cluster<D, C> {
         ensures in_order { IsInOrder D.tells D.content D.may_leave self.new }
         ensures ends { EndsFrom D.faults D.stops_in D.is_tame C.troubles C.is_silent C.asked self.old self.new work.old c.now
             proposer.old.shown (asks_left_to_tell work.old) result }
+        ensures bounds { GivesAtMost 1 2 self.old.nodes self.new.nodes }
     {
         let endpoint = work.endpoint;
         match self.teach(alloc, work) {
@@ -207,6 +212,7 @@ impl<D: Disk, C: Courier + Drop> Cluster<D, C> {
         ensures in_order { IsInOrder D.tells D.content D.may_leave self.new }
         ensures ends { EndsFrom D.faults D.stops_in D.is_tame C.troubles C.is_silent C.asked self.old self.new work.old c.now
             proposer.old.shown (asks_left 3 work.old) result }
+        ensures bounds { GivesAtMost 1 2 self.old.nodes self.new.nodes }
     {
         let endpoint = work.endpoint;
         match self.prepare(alloc, work, proposer) {
@@ -232,6 +238,7 @@ impl<D: Disk, C: Courier + Drop> Cluster<D, C> {
         ensures in_order { IsInOrder D.tells D.content D.may_leave self.new }
         ensures ends { EndsFrom D.faults D.stops_in D.is_tame C.troubles C.is_silent C.asked self.old self.new work.old c.now
             proposer.old.shown (asks_left 2 work.old) result }
+        ensures bounds { GivesAtMost 0 2 self.old.nodes self.new.nodes }
     {
         let Some(proposal) = proposer.proposal() else {
             return Attempt::Disturbed {
@@ -266,6 +273,7 @@ impl<D: Disk, C: Courier + Drop> Cluster<D, C> {
         ensures in_order { IsInOrder D.tells D.content D.may_leave self.new }
         ensures ends { EndsFrom D.faults D.stops_in D.is_tame C.troubles C.is_silent C.asked self.old self.new work.old c.now
             proposer.old.shown (asks_left 2 work.old) result }
+        ensures bounds { GivesAtMost 0 2 self.old.nodes self.new.nodes }
     {
         let endpoint = work.endpoint;
         match self.vote(alloc, work, proposer, proposal) {
@@ -287,6 +295,7 @@ impl<D: Disk, C: Courier + Drop> Cluster<D, C> {
         ensures in_order { IsInOrder D.tells D.content D.may_leave self.new }
         ensures ends { ClosesFrom D.faults D.stops_in D.is_tame C.troubles C.is_silent C.asked self.old self.new work.old c.now command.now
             (asks_left 1 work.old) result }
+        ensures bounds { GivesAtMost 0 0 self.old.nodes self.new.nodes }
     {
         match self.learn_own(alloc, work, command) {
             Ok(true) => self.tell_peers(alloc, work, command, c),
@@ -314,6 +323,7 @@ impl<D: Disk, C: Courier + Drop> Cluster<D, C> {
         ensures in_order { IsInOrder D.tells D.content D.may_leave self.new }
         ensures ends { ClosesFrom D.faults D.stops_in D.is_tame C.troubles C.is_silent C.asked self.old self.new work.old c.now command.now
             (asks_left 1 work.old) result }
+        ensures bounds { GivesAtMost 0 0 self.old.nodes self.new.nodes }
     {
         let slot = work.slot;
         let _ = self.spread(alloc, work, command);

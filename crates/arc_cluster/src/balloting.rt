@@ -5,6 +5,7 @@ ghost use Rattle.arc_node.specs.Node.{is_up, kept};
 ghost use Rattle.arc_proposer.specs.Counting.{ByThreeWith};
 ghost use Rattle.arc_proposer.specs.Laws.{HasMajority};
 ghost use Rattle.arc_proposer.specs.Proposing.{HasNoneCounted, proposed_by};
+ghost use Rattle.arc_cluster.specs.Attempts.{GivesAtMost};
 ghost use Rattle.arc_cluster.specs.Cluster.{IsInOrder};
 ghost use Rattle.arc_cluster.specs.Exchange.{AllGrow, AllSent, MayBeSent, sent};
 ghost use Rattle.arc_cluster.specs.Handling.{none_of_five};
@@ -65,6 +66,7 @@ impl<D: Disk, C: Courier + Drop> Cluster<D, C> {
         ensures others { (node : ℕ) → node < 5 → node ≢ work.old.endpoint → at work.old.peers node ≡ false →
             at self.new.nodes node ≡ at self.old.nodes node }
         ensures asked { AsksAtMost (C.asked self.old.courier) (C.asked self.new.courier) (λ peer. if at work.old.peers peer then 1 else 0) }
+        ensures bounds { GivesAtMost 1 0 self.old.nodes self.new.nodes }
     {
         let mut answers = no_answers();
         let prepared = self.prepare_in(alloc, work, proposer, &mut answers);
@@ -98,6 +100,7 @@ impl<D: Disk, C: Courier + Drop> Cluster<D, C> {
         ensures others { (node : ℕ) → node < 5 → node ≢ work.old.endpoint → at work.old.peers node ≡ false →
             at self.new.nodes node ≡ at self.old.nodes node }
         ensures asked { AsksAtMost (C.asked self.old.courier) (C.asked self.new.courier) (λ peer. if at work.old.peers peer then 1 else 0) }
+        ensures bounds { GivesAtMost 1 0 self.old.nodes self.new.nodes }
     {
         self.ask_promises(alloc, work, proposer.ballot(), answers)?;
         count_promises(alloc, proposer, answers)?;
@@ -122,6 +125,7 @@ impl<D: Disk, C: Courier + Drop> Cluster<D, C> {
         ensures each { OnOk result (AllSent C.troubles C.is_silent self.old self.new work.old work.new
             (Prepare work.old.slot ballot) true answers.new) }
         ensures grown { AllGrow self.old.nodes self.new.nodes (sent work.old true (Prepare work.old.slot ballot)) }
+        ensures bounds { GivesAtMost 1 0 self.old.nodes self.new.nodes }
         ensures same { IsSameWork work.old work.new }
         ensures asked { AsksAtMost (C.asked self.old.courier) (C.asked self.new.courier) (λ peer. if at work.old.peers peer then 1 else 0) }
     {
@@ -160,6 +164,7 @@ impl<D: Disk, C: Courier + Drop> Cluster<D, C> {
         ensures others { (node : ℕ) → node < 5 → node ≢ work.old.endpoint → at work.old.peers node ≡ false →
             at self.new.nodes node ≡ at self.old.nodes node }
         ensures asked { AsksAtMost (C.asked self.old.courier) (C.asked self.new.courier) (λ peer. if at work.old.peers peer then 1 else 0) }
+        ensures bounds { GivesAtMost 0 2 self.old.nodes self.new.nodes }
     {
         let Ok(command) = proposal.copy(alloc) else {
             return Err(Memory);
@@ -200,6 +205,7 @@ impl<D: Disk, C: Courier + Drop> Cluster<D, C> {
         ensures others { (node : ℕ) → node < 5 → node ≢ work.old.endpoint → at work.old.peers node ≡ false →
             at self.new.nodes node ≡ at self.old.nodes node }
         ensures asked { AsksAtMost (C.asked self.old.courier) (C.asked self.new.courier) (λ peer. if at work.old.peers peer then 1 else 0) }
+        ensures bounds { GivesAtMost 0 2 self.old.nodes self.new.nodes }
     {
         match self.vote_own(alloc, work, proposer, message) {
             Ok(true) => self.ask_votes(alloc, work, proposer, message),
@@ -233,6 +239,7 @@ impl<D: Disk, C: Courier + Drop> Cluster<D, C> {
         ensures proposal { proposed_by proposer.new ≡ proposed_by proposer.old }
         ensures others { (node : ℕ) → node < 5 → node ≢ work.now.endpoint → at self.new.nodes node ≡ at self.old.nodes node }
         ensures courier { self.new.courier ≡ self.old.courier }
+        ensures bounds { GivesAtMost 0 1 self.old.nodes self.new.nodes }
     {
         let mut answers = no_answers();
         let own = self.send_own(alloc, work.endpoint, message, &mut answers);
@@ -269,6 +276,7 @@ impl<D: Disk, C: Courier + Drop> Cluster<D, C> {
         ensures others { (node : ℕ) → node < 5 → node ≢ work.old.endpoint → at work.old.peers node ≡ false →
             at self.new.nodes node ≡ at self.old.nodes node }
         ensures asked { AsksAtMost (C.asked self.old.courier) (C.asked self.new.courier) (λ peer. if at work.old.peers peer then 1 else 0) }
+        ensures bounds { GivesAtMost 0 1 self.old.nodes self.new.nodes }
     {
         let mut answers = no_answers();
         let sent = self.send(alloc, work, message, false, &mut answers);
@@ -298,6 +306,7 @@ impl<D: Disk, C: Courier + Drop> Cluster<D, C> {
         ensures fallen { result ≡ Ok false → is_up (at self.new.nodes work.now.endpoint) ≡ false }
         ensures others { (node : ℕ) → node < 5 → node ≢ work.now.endpoint → at self.new.nodes node ≡ at self.old.nodes node }
         ensures courier { self.new.courier ≡ self.old.courier }
+        ensures bounds { GivesAtMost 0 0 self.old.nodes self.new.nodes }
     {
         let Ok(copy) = command.copy(alloc) else {
             return Err(Memory);
@@ -335,6 +344,7 @@ impl<D: Disk, C: Courier + Drop> Cluster<D, C> {
         ensures meets { MeetOnce C.troubles self.old.courier self.new.courier work.old }
         ensures others { (node : ℕ) → node < 5 → at work.old.peers node ≡ false → at self.new.nodes node ≡ at self.old.nodes node }
         ensures asked { AsksAtMost (C.asked self.old.courier) (C.asked self.new.courier) (λ peer. if at work.old.peers peer then 1 else 0) }
+        ensures bounds { GivesAtMost 0 0 self.old.nodes self.new.nodes }
     {
         let Ok(copy) = command.copy(alloc) else {
             return Err(Memory);

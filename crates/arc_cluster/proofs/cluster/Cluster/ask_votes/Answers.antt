@@ -1,8 +1,11 @@
 use Rattle.std.proofs.Common.{◌≡◌, false, sym, subst}
 use Rattle.arc_data.specs.declared.message.Message.{Message}
-use Rattle.arc_cluster.specs.Exchange.{AllSent, MayBeSent}
+use Rattle.arc_cluster.specs.Exchange.{AllSent, MayBeSent, AllGrow, sent}
 use Rattle.arc_cluster.proofs.Onward.{peers_after}
 use Rattle.arc_cluster.proofs.PeerVotes.{few_take_part, same_end, three_choose, vote_may_be_sent, votes_under_way}
+use Rattle.arc_cluster.proofs.Bounds.{gives_sent}
+use Rattle.arc_cluster.specs.Voting.{asks_vote}
+use Rattle.arc_proposer.specs.Proposing.{proposed_by}
 use Rattle.arc_cluster.proofs.cluster.Cluster.ask_votes.Goals as goal
 
 pub send-sent-requires-clause-message : goal.send-sent-requires-clause-message
@@ -52,3 +55,21 @@ returns-in-Ok-clause-too_few g c = λ ended.
       few_take_part courier.troubles courier.is_silent old new before after p q _ answers c.requires.under_way c.requires.stands
           c.requires.proposer on sent c.count_votes.ensures.counted (c.votes_of.ensures.too_few (same_end ended)),
     )
+
+pub returns-in-Ok-clause-bounds : goal.returns-in-Ok-clause-bounds
+returns-in-Ok-clause-bounds g c =
+    let old = c.args.self.now.nodes in
+    let new = c.send-sent.new.self.nodes in
+    let work = c.args.work.now in
+    let p = c.args.proposer.now in
+    gives_sent old new work false (asks_vote work p (proposed_by p))
+    (subst (λ (m : Message). AllGrow old new (sent work false m)) c.requires.message c.send-sent.ensures.grown)
+
+pub returns-in-Err-clause-bounds : goal.returns-in-Err-clause-bounds
+returns-in-Err-clause-bounds g c =
+    let old = c.args.self.now.nodes in
+    let new = c.send-sent.new.self.nodes in
+    let work = c.args.work.now in
+    let p = c.args.proposer.now in
+    gives_sent old new work false (asks_vote work p (proposed_by p))
+    (subst (λ (m : Message). AllGrow old new (sent work false m)) c.requires.message c.send-sent.ensures.grown)

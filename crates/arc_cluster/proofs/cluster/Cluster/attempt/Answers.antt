@@ -3,6 +3,7 @@ use Rattle.arc_data.specs.Entries.{closed_len, promise}
 use Rattle.arc_node.specs.Node.{kept, slots_in}
 use Rattle.arc_cluster.proofs.Onward.{cluster_same}
 use Rattle.arc_cluster.proofs.Statuses.{promise_fits}
+use Rattle.arc_cluster.proofs.Bounds.{gives_same}
 use Rattle.arc_cluster.proofs.cluster.Cluster.attempt.Goals as goal
 
 pub returns-then-slot-max_slots-clause-go_on : goal.returns-then-slot-max_slots-clause-go_on
@@ -43,3 +44,12 @@ returns-clause-full g c = λ is.
     absurd (c.if-slot-max_slots.false
     (c.applied_len-slot.ensures ∙ ap (λ n. closed_len (kept n)) c.get-own.ensures ∙ is
     ∙ sym (c.max_slots.ensures ∙ ap slots_in c.get-own.ensures)))
+
+pub returns-then-slot-max_slots-clause-bounds : goal.returns-then-slot-max_slots-clause-bounds
+returns-then-slot-max_slots-clause-bounds g c = gives_same 1 2 c.args.self.now.nodes
+
+pub returns-then-not-is_up-clause-bounds : goal.returns-then-not-is_up-clause-bounds
+returns-then-not-is_up-clause-bounds g c = gives_same 1 2 c.args.self.now.nodes
+
+pub returns-in_default-clause-bounds : goal.returns-in_default-clause-bounds
+returns-in_default-clause-bounds g c = gives_same 1 2 c.args.self.now.nodes

@@ -12,6 +12,7 @@ use Rattle.arc_cluster.specs.Phases.{IsKnown, IsProposerOf, IsVotedForGood, MayB
 use Rattle.arc_cluster.proofs.Coming.{comes_on, ended_disturbed, ended_down, ended_memory, ended_wanting, passed_here, passes}
 use Rattle.arc_cluster.proofs.Ending.{by_known, by_votes, comes_first, first_and_left, same_left, known_for_good, passes_first, no_majority_few, one_asked, one_is_left, own_promise, part_before, proposal_valid, proposer_own, proposer_still, shown_still, stands_still, still_may_then, telling_is_left, told_asked}
 use Rattle.arc_data.specs.Entries.{closed_len, promise}
+use Rattle.arc_cluster.proofs.Bounds.{gives_lists, gives_more, gives_then}
 use Rattle.arc_cluster.proofs.cluster.Cluster.attempt_at.Goals as goal
 
 pub ask-requires-clause-proposer : goal.ask-requires-clause-proposer
@@ -138,3 +139,19 @@ returns-in-Err-clause-ended g c =
     let p = c.args.proposer.now in
     let q = c.ask.new.proposer in
     ended_wanting disk.faults disk.stops_in disk.is_tame courier.troubles courier.is_silent courier.asked old mid before.endpoint own (passes_first disk.faults disk.stops_in disk.is_tame courier.troubles courier.is_silent courier.asked old mid before after own c.requires.under_way c.requires.peers c.ask.ensures.go_on c.ask.ensures.lists c.ask.ensures.asked) c.wanting.result c.wanting.ensures
+
+pub returns-in-Ok-Some-clause-bounds : goal.returns-in-Ok-Some-clause-bounds
+returns-in-Ok-Some-clause-bounds g c =
+    let mid = c.ask.new.self.nodes in
+    let end = c.close_known-end.new.self.nodes in
+    gives_then 0 0 1 2 c.args.self.now.nodes mid end (gives_lists 0 0 c.args.self.now.nodes mid c.ask.ensures.lists) (gives_more 0 0 1 2 mid end c.close_known-end.ensures.bounds)
+
+pub returns-in-Ok-None-clause-bounds : goal.returns-in-Ok-None-clause-bounds
+returns-in-Ok-None-clause-bounds g c =
+    let mid = c.ask.new.self.nodes in
+    gives_then 0 0 1 2 c.args.self.now.nodes mid c.catch_up.new.self.nodes (gives_lists 0 0 c.args.self.now.nodes mid c.ask.ensures.lists) c.catch_up.ensures.bounds
+
+pub returns-in-Err-clause-bounds : goal.returns-in-Err-clause-bounds
+returns-in-Err-clause-bounds g c =
+    let mid = c.ask.new.self.nodes in
+    gives_lists 1 2 c.args.self.now.nodes mid c.ask.ensures.lists

@@ -11,6 +11,7 @@ use Rattle.arc_cluster.specs.Coming.{Ended, HasCome, MayBePlaced, asks_left, ask
 use Rattle.arc_cluster.specs.Phases.{IsProposerOf, IsVotedForGood, MayBeAttempted}
 use Rattle.arc_cluster.proofs.Coming.{comes_on, ended_disturbed, ended_down, ended_memory, ended_wanting, passed_here, passes}
 use Rattle.arc_cluster.proofs.Ending.{by_votes, no_majority_few, one_asked, one_is_left, own_promise, part_before, proposal_valid, proposer_own, proposer_still, shown_still, stands_still, still_may_then, telling_is_left, told_asked}
+use Rattle.arc_cluster.proofs.Bounds.{gives_more, gives_then}
 use Rattle.arc_cluster.proofs.cluster.Cluster.ballot.Goals as goal
 
 pub prepare-requires-clause-proposer : goal.prepare-requires-clause-proposer
@@ -95,3 +96,13 @@ returns-in-Err-clause-ends g c = λ start come.
     let passed = passes disk.faults disk.stops_in disk.is_tame courier.troubles courier.is_silent courier.asked start old mid before own p.shown (asks_left 3 before) (asks_left 1 before) (λ d. ⊥)
     come (λ d none. absurd none) c.prepare.ensures.go_on c.prepare.ensures.others c.prepare.ensures.asked (λ peer lt. one_is_left before 2 peer) in
     ended_wanting disk.faults disk.stops_in disk.is_tame courier.troubles courier.is_silent courier.asked start mid before.endpoint own passed c.wanting.result c.wanting.ensures
+
+pub returns-in-Ok-true-clause-bounds : goal.returns-in-Ok-true-clause-bounds
+returns-in-Ok-true-clause-bounds g c =
+    gives_then 1 0 0 2 c.args.self.now.nodes c.prepare.new.self.nodes c.propose.new.self.nodes c.prepare.ensures.bounds c.propose.ensures.bounds
+
+pub returns-in-Ok-false-clause-bounds : goal.returns-in-Ok-false-clause-bounds
+returns-in-Ok-false-clause-bounds g c = gives_more 1 0 0 2 c.args.self.now.nodes c.prepare.new.self.nodes c.prepare.ensures.bounds
+
+pub returns-in-Err-clause-bounds : goal.returns-in-Err-clause-bounds
+returns-in-Err-clause-bounds g c = gives_more 1 0 0 2 c.args.self.now.nodes c.prepare.new.self.nodes c.prepare.ensures.bounds

@@ -11,6 +11,7 @@ use Rattle.arc_cluster.specs.Coming.{Ended, HasCome, MayBePlaced, asks_left, ask
 use Rattle.arc_cluster.specs.Phases.{IsProposerOf, IsVotedForGood, MayBeAttempted}
 use Rattle.arc_cluster.proofs.Coming.{comes_on, ended_disturbed, ended_down, ended_memory, ended_wanting, passed_here, passes}
 use Rattle.arc_cluster.proofs.Ending.{by_votes, no_majority_few, one_asked, one_is_left, own_promise, part_before, proposal_valid, proposer_own, proposer_still, shown_still, stands_still, still_may_then, telling_is_left, told_asked}
+use Rattle.arc_cluster.proofs.Bounds.{gives_counts, gives_more, gives_then}
 use Rattle.arc_cluster.proofs.cluster.Cluster.catch_up.Goals as goal
 
 pub ballot-requires-clause-proposer : goal.ballot-requires-clause-proposer
@@ -78,3 +79,13 @@ returns-in-Err-clause-ends g c = λ start come.
     come (λ d none. absurd none) c.teach.ensures.go_on (λ node lt other out. c.teach.ensures.others node lt out) c.teach.ensures.asked
     (λ peer lt. telling_is_left before peer) in
     ended_wanting disk.faults disk.stops_in disk.is_tame courier.troubles courier.is_silent courier.asked start mid before.endpoint own passed c.wanting.result c.wanting.ensures
+
+pub returns-in-Ok-clause-bounds : goal.returns-in-Ok-clause-bounds
+returns-in-Ok-clause-bounds g c =
+    let mid = c.teach.new.self.nodes in
+    gives_then 0 0 1 2 c.args.self.now.nodes mid c.ballot.new.self.nodes (gives_counts c.args.self.now.nodes mid c.teach.ensures.counts) c.ballot.ensures.bounds
+
+pub returns-in-Err-clause-bounds : goal.returns-in-Err-clause-bounds
+returns-in-Err-clause-bounds g c =
+    let mid = c.teach.new.self.nodes in
+    gives_more 0 0 1 2 c.args.self.now.nodes mid (gives_counts c.args.self.now.nodes mid c.teach.ensures.counts)

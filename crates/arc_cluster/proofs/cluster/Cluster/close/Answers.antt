@@ -7,6 +7,7 @@ use Rattle.arc_cluster.proofs.Beginning.{peers_stay}
 use Rattle.arc_cluster.proofs.Coming.{comes_on, ended_closed, ended_down, ended_wanting, passes}
 use Rattle.arc_cluster.proofs.Ending.{not_asked, voted_stays}
 use Rattle.arc_cluster.proofs.Onward.{peers_after}
+use Rattle.arc_cluster.proofs.Bounds.{gives_then}
 use Rattle.arc_cluster.proofs.cluster.Cluster.close.Goals as goal
 
 pub tell_peers-requires-clause-peers : goal.tell_peers-requires-clause-peers
@@ -75,3 +76,7 @@ returns-in-Err-clause-ends g c = λ start shown come may.
     come (λ d none. absurd none) c.learn_own.ensures.go_on (λ node lt other out. c.learn_own.ensures.others node lt other)
     (not_asked courier.asked old.courier mid.courier c.learn_own.ensures.courier) (λ peer lt. omega arith) in
     ended_wanting disk.faults disk.stops_in disk.is_tame courier.troubles courier.is_silent courier.asked start mid before.endpoint own passed c.wanting.result c.wanting.ensures
+
+pub returns-in-Ok-true-clause-bounds : goal.returns-in-Ok-true-clause-bounds
+returns-in-Ok-true-clause-bounds g c =
+    gives_then 0 0 0 0 c.args.self.now.nodes c.learn_own.new.self.nodes c.tell_peers.new.self.nodes c.learn_own.ensures.bounds c.tell_peers.ensures.bounds

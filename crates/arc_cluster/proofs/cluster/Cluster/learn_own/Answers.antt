@@ -8,6 +8,7 @@ use Rattle.arc_cluster.specs.Handling.{MayBeHandled}
 use Rattle.arc_cluster.proofs.Closing.{learn_closes, learn_may_be_handled, message_asks_none}
 use Rattle.arc_cluster.proofs.Onward.{cluster_same, cluster_widened}
 use Rattle.arc_cluster.proofs.Promised.{some_there}
+use Rattle.arc_cluster.proofs.Bounds.{gives_own, gives_same}
 use Rattle.arc_cluster.proofs.cluster.Cluster.learn_own.Goals as goal
 
 pub returns-in_default-clause-go_on : goal.returns-in_default-clause-go_on
@@ -46,3 +47,16 @@ returns-in-Ok-told-clause-closed g c = λ ended.
     let there = some_there answers work.endpoint work.endpoint refl c.is_some-learned.result (c.is_some-learned.ensures ∙ ap is_some c.get.ensures) ended in
     let handled = subst (λ (d : Command). OwnHandled nodes new work.endpoint (Learn work.slot d) answers) c.in-Ok.ensures c.in-Ok-told.ensures.handled in
     learn_closes nodes new work c.args.command.now answers there.0 c.requires.under_way handled there.1
+
+pub returns-in_default-clause-bounds : goal.returns-in_default-clause-bounds
+returns-in_default-clause-bounds g c = gives_same 0 0 c.args.self.now.nodes
+
+pub returns-in-Ok-told-clause-bounds : goal.returns-in-Ok-told-clause-bounds
+returns-in-Ok-told-clause-bounds g c =
+    let work = c.args.work.now in
+    gives_own c.args.self.now.nodes c.send_own-told.new.self.nodes work.endpoint (Learn work.slot c.in-Ok.copy) c.send_own-told.ensures.grown
+
+pub returns-in-Err-clause-bounds : goal.returns-in-Err-clause-bounds
+returns-in-Err-clause-bounds g c =
+    let work = c.args.work.now in
+    gives_own c.args.self.now.nodes c.send_own-told.new.self.nodes work.endpoint (Learn work.slot c.in-Ok.copy) c.send_own-told.ensures.grown

@@ -11,6 +11,7 @@ use Rattle.arc_cluster.specs.Coming.{Ended, HasCome, MayBePlaced, asks_left, ask
 use Rattle.arc_cluster.specs.Phases.{IsProposerOf, IsVotedForGood, MayBeAttempted}
 use Rattle.arc_cluster.proofs.Coming.{comes_on, ended_disturbed, ended_down, ended_memory, ended_wanting, passed_here, passes}
 use Rattle.arc_cluster.proofs.Ending.{by_votes, no_majority_few, one_asked, one_is_left, own_promise, part_before, proposal_valid, proposer_own, proposer_still, shown_still, stands_still, still_may_then, telling_is_left, told_asked}
+use Rattle.arc_cluster.proofs.Bounds.{gives_then}
 use Rattle.arc_cluster.proofs.cluster.Cluster.poll.Goals as goal
 
 pub vote-requires-clause-proposer : goal.vote-requires-clause-proposer
@@ -110,3 +111,7 @@ returns-in-Err-clause-ends g c = λ start come.
     let passed = passes disk.faults disk.stops_in disk.is_tame courier.troubles courier.is_silent courier.asked start old mid before own p.shown (asks_left 2 before) (asks_left 1 before) (λ d. d ≡ p.own)
     come (λ d is. is ∙ c.requires.proposer.own_is) c.vote.ensures.go_on c.vote.ensures.others c.vote.ensures.asked (λ peer lt. one_is_left before 1 peer) in
     ended_wanting disk.faults disk.stops_in disk.is_tame courier.troubles courier.is_silent courier.asked start mid before.endpoint own passed c.wanting.result c.wanting.ensures
+
+pub returns-in-Ok-Chosen-clause-bounds : goal.returns-in-Ok-Chosen-clause-bounds
+returns-in-Ok-Chosen-clause-bounds g c =
+    gives_then 0 2 0 0 c.args.self.now.nodes c.vote.new.self.nodes c.close.new.self.nodes c.vote.ensures.bounds c.close.ensures.bounds

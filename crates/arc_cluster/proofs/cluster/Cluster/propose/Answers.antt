@@ -11,6 +11,7 @@ use Rattle.arc_cluster.specs.Coming.{Ended, HasCome, MayBePlaced, asks_left, ask
 use Rattle.arc_cluster.specs.Phases.{IsProposerOf, IsVotedForGood, MayBeAttempted}
 use Rattle.arc_cluster.proofs.Coming.{comes_on, ended_disturbed, ended_down, ended_memory, ended_wanting, passed_here, passes}
 use Rattle.arc_cluster.proofs.Ending.{by_votes, no_majority_few, one_asked, one_is_left, own_promise, part_before, proposal_valid, proposer_own, proposer_still, shown_still, stands_still, still_may_then, telling_is_left, told_asked}
+use Rattle.arc_cluster.proofs.Bounds.{gives_same}
 use Rattle.arc_cluster.proofs.cluster.Cluster.propose.Goals as goal
 
 pub poll-end-requires-clause-valid : goal.poll-end-requires-clause-valid
@@ -37,3 +38,6 @@ returns-in_default-clause-ends g c = λ start come.
     ended_disturbed disk.faults disk.stops_in disk.is_tame courier.troubles courier.is_silent courier.asked start old before own p.shown (asks_left 2 before) c.tally.result come c.requires.under_way c.tally.ensures.clear
     c.tally.ensures.slot c.tally.ensures.five (no_majority_few old.nodes before p own c.requires.under_way c.requires.proposer c.requires.promised c.in_default.ensures.none)
     (ballot_of p) mine.0 mine.1 mine.2
+
+pub returns-in_default-clause-bounds : goal.returns-in_default-clause-bounds
+returns-in_default-clause-bounds g c = gives_same 0 2 c.args.self.now.nodes

@@ -4,6 +4,7 @@ use Rattle.arc_cluster.specs.Phases.{IsVotedForGood}
 use Rattle.arc_cluster.specs.Work.{IsUnderWay, TakesPart}
 use Rattle.arc_voting.specs.Journals.{ByThree}
 use Rattle.arc_cluster.proofs.Onward.{cluster_same}
+use Rattle.arc_cluster.proofs.Bounds.{gives_same}
 use Rattle.arc_cluster.proofs.cluster.Cluster.vote.Goals as goal
 
 pub returns-in_default-clause-go_on : goal.returns-in_default-clause-go_on
@@ -16,3 +17,6 @@ returns-clause-chosen g c = λ ended.
     let before = c.args.work.now in
     subst (λ (d : Command). IsUnderWay new c.vote_by-votes.new.work × IsVotedForGood new before.slot d × ByThree (TakesPart before)) (sym c.requires.proposal)
     (c.vote_by-votes.ensures.chosen ended)
+
+pub returns-in_default-clause-bounds : goal.returns-in_default-clause-bounds
+returns-in_default-clause-bounds g c = gives_same 0 2 c.args.self.now.nodes

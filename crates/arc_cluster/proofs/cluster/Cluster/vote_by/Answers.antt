@@ -5,6 +5,7 @@ use Rattle.arc_cluster.specs.Work.{IsUnderWay, TakesPart}
 use Rattle.arc_voting.specs.Journals.{ByThree}
 use Rattle.arc_cluster.proofs.Beginning.{peers_stay}
 use Rattle.arc_cluster.proofs.Onward.{cluster_then}
+use Rattle.arc_cluster.proofs.Bounds.{gives_more, gives_then}
 use Rattle.arc_cluster.proofs.cluster.Cluster.vote_by.Goals as goal
 
 pub returns-in-Ok-true-clause-go_on : goal.returns-in-Ok-true-clause-go_on
@@ -25,3 +26,13 @@ returns-in-Ok-true-clause-chosen g c = λ ended.
 pub returns-in-Ok-false-clause-go_on_in : goal.returns-in-Ok-false-clause-go_on_in
 returns-in-Ok-false-clause-go_on_in g c =
     peers_stay g.C.Courier.troubles c.args.self.now c.vote_own.new.self c.args.work.now c.requires.under_way.peers c.vote_own.ensures.others c.vote_own.ensures.courier
+
+pub returns-in-Ok-true-clause-bounds : goal.returns-in-Ok-true-clause-bounds
+returns-in-Ok-true-clause-bounds g c =
+    gives_then 0 1 0 1 c.args.self.now.nodes c.vote_own.new.self.nodes c.ask_votes.new.self.nodes c.vote_own.ensures.bounds c.ask_votes.ensures.bounds
+
+pub returns-in-Ok-false-clause-bounds : goal.returns-in-Ok-false-clause-bounds
+returns-in-Ok-false-clause-bounds g c = gives_more 0 1 0 1 c.args.self.now.nodes c.vote_own.new.self.nodes c.vote_own.ensures.bounds
+
+pub returns-in-Err-clause-bounds : goal.returns-in-Err-clause-bounds
+returns-in-Err-clause-bounds g c = gives_more 0 1 0 1 c.args.self.now.nodes c.vote_own.new.self.nodes c.vote_own.ensures.bounds

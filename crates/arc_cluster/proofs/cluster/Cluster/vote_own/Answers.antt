@@ -2,13 +2,16 @@ use Rattle.std.proofs.Common.{◌≡◌, Ok, true, Option, refl, sym, ◌∙◌,
 use Rattle.std.specs.Option.{is_some}
 use Rattle.arc_bytes.specs.Five.{at}
 use Rattle.arc_data.specs.declared.message.Message.{Message}
-use Rattle.arc_cluster.specs.Exchange.{OwnHandled, to_own}
+use Rattle.arc_cluster.specs.Exchange.{OwnHandled, to_own, AllGrow}
 use Rattle.arc_cluster.specs.Handling.{MayBeHandled}
 use Rattle.arc_cluster.specs.Nodes.{AllFollow}
 use Rattle.arc_voting.specs.Staying.{IsAskedFor}
 use Rattle.arc_cluster.proofs.Beginning.{cluster_begins}
 use Rattle.arc_cluster.proofs.Promised.{some_there}
 use Rattle.arc_cluster.proofs.Voted.{own_begins, own_vote_may_be_asked, own_vote_stands, under_way_still}
+use Rattle.arc_cluster.proofs.Bounds.{gives_own}
+use Rattle.arc_cluster.specs.Voting.{asks_vote}
+use Rattle.arc_proposer.specs.Proposing.{proposed_by}
 use Rattle.arc_cluster.proofs.cluster.Cluster.vote_own.Goals as goal
 
 pub send_own-own-requires-clause-message : goal.send_own-own-requires-clause-message
@@ -68,3 +71,21 @@ returns-in-Ok-clause-stands g c = λ is.
     own_vote_stands disk.tells disk.content disk.may_leave nodes work c.args.proposer.now c.requires.in_order.nodes c.requires.under_way
     c.requires.promised c.requires.majority c.requires.proposer c.requires.own new c.count_votes.new.proposer answers
     (subst (λ (m : Message). OwnHandled nodes new work.endpoint m answers) c.requires.message c.in-Ok.ensures.handled) c.count_votes.ensures.counted there.0 there.1
+
+pub returns-in-Ok-clause-bounds : goal.returns-in-Ok-clause-bounds
+returns-in-Ok-clause-bounds g c =
+    let old = c.args.self.now.nodes in
+    let new = c.send_own-own.new.self.nodes in
+    let work = c.args.work.now in
+    let p = c.args.proposer.now in
+    gives_own old new work.endpoint (asks_vote work p (proposed_by p))
+    (subst (λ (m : Message). AllGrow old new (to_own work.endpoint m)) c.requires.message c.send_own-own.ensures.grown)
+
+pub returns-in-Err-clause-bounds : goal.returns-in-Err-clause-bounds
+returns-in-Err-clause-bounds g c =
+    let old = c.args.self.now.nodes in
+    let new = c.send_own-own.new.self.nodes in
+    let work = c.args.work.now in
+    let p = c.args.proposer.now in
+    gives_own old new work.endpoint (asks_vote work p (proposed_by p))
+    (subst (λ (m : Message). AllGrow old new (to_own work.endpoint m)) c.requires.message c.send_own-own.ensures.grown)
