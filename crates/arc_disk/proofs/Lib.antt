@@ -1,5 +1,6 @@
 pub mod Moments
 pub mod Events
+pub mod Logging
 pub mod Filled
 pub mod Elapsing
 pub mod Calling

@@ -1,5 +1,5 @@
 -- What a history in memory stands for, and what each of its calls makes of it.
-use Rattle.std.specs.Prelude.{ℕ, ◌≡◌, ◌≢◌, ◌<◌, ◌≤◌, List, [], ◌∷◌, ◌++◌, map, vec_len, vec_capacity}
+use Rattle.std.specs.Prelude.{ℕ, ◌≡◌, ◌≢◌, ◌<◌, ◌≤◌, ◌+◌, List, [], ◌∷◌, ◌++◌, length, take, drop, vec_len, vec_capacity}
 use Rattle.arc_bytes.specs.Counts.{next_count}
 use Rattle.arc_disk.specs.Past.{Event, Past, standing, time_of}
 use Rattle.arc_disk.specs.Past.Event.{Write, Sync, Crash}
@@ -8,26 +8,36 @@ use Rattle.arc_disk.specs.declared.event.Event.TheVariants as variant
 use Rattle.arc_disk.specs.declared.history.History.TheInside.{Inside}
 use Rattle.arc_disk.specs.declared.range.Range.{Range}
 
--- An event as it is kept, without where its bytes lie in memory.
-abbrev pub event_of : kept.Event → Event
-event_of (variant.Write time at bytes) = Write time at bytes.items
-event_of (variant.Sync time) = Sync time
-event_of (variant.Crash time fill) = Crash time fill
+-- The events of a log that keeps the bytes of its writes one after another.
+abbrev pub events_of : List kept.Event → List ℕ → List Event
+events_of [] bytes = []
+events_of (variant.Write time at len ∷ log) bytes = Write time at (take len bytes) ∷ events_of log (drop len bytes)
+events_of (variant.Sync time ∷ log) bytes = Sync time ∷ events_of log bytes
+events_of (variant.Crash time fill ∷ log) bytes = Crash time fill ∷ events_of log bytes
+
+-- How many bytes the writes of a log have.
+abbrev pub written_len : List kept.Event → ℕ
+written_len [] = 0
+written_len (variant.Write time at len ∷ log) = len + written_len log
+written_len (variant.Sync time ∷ log) = written_len log
+written_len (variant.Crash time fill ∷ log) = written_len log
 
 -- The history that is kept so.
 abbrev pub past_of : Inside → Past
-past_of a = record { first = a.first.items; events = map event_of a.log.items; clock = a.clock }
+past_of a = record { first = a.first.items; events = events_of a.log.items a.log_bytes.items; clock = a.clock }
 
 -- None of these events came later.
 abbrev pub IsInTime : ℕ → List Event → Type 0
 IsInTime clock [] = Unit {0}
 IsInTime clock (event ∷ events) = (time_of event ≤ clock) × IsInTime clock events
 
--- What is kept beside the events is what follows from them, and where a range waits there is room for one event more.
+-- The log has the bytes of its writes and no others, what is kept beside it is what follows from it, and where a range
+-- waits there is room for one event more.
 pub record IsKept (a : Inside) : Type 0 where
   pub content : a.content.items ≡ (standing (past_of a)).content
   pub waiting : a.waiting.items ≡ (standing (past_of a)).waiting
-  pub in_time : IsInTime a.clock (map event_of a.log.items)
+  pub bytes : length a.log_bytes.items ≡ written_len a.log.items
+  pub in_time : IsInTime a.clock (past_of a).events
   pub room : a.waiting.items ≢ [] → vec_len a.log < vec_capacity a.log
 
 -- One device call later.

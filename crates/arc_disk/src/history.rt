@@ -1,10 +1,10 @@
 //! The bytes of a disk in memory, and what happened to them.
-ghost use Rattle.std.specs.Prelude.{◌≡◌, ◌+◌, ◌<◌, ◌≤◌, [], ◌∷◌, ◌++◌, length, map, vec_len, vec_capacity, IfOk, OnErr, OnOk};
+ghost use Rattle.std.specs.Prelude.{◌≡◌, ◌+◌, ◌<◌, ◌≤◌, [], ◌∷◌, ◌++◌, length, vec_len, vec_capacity, IfOk, OnErr, OnOk};
 ghost use Rattle.arc_bytes.specs.Counts.{next_count};
 ghost use Rattle.arc_disk.specs.Disk.{written};
 ghost use Rattle.arc_disk.specs.Past.{all_filled, filled, standing};
 ghost use Rattle.arc_disk.specs.Past.Event.{Write as wrote};
-ghost use Rattle.arc_disk.specs.History.{IsInTime, crashed, event_of, grown, synced, ticked};
+ghost use Rattle.arc_disk.specs.History.{IsInTime, crashed, grown, synced, ticked};
 
 use crate::event::Event;
 use crate::range::Range;
@@ -12,11 +12,14 @@ use std::alloc::{AllocError, Global};
 use std::marker::Model;
 
 /// The bytes that a disk had at first, what happened to it since, and how it stands now.
+///
+/// The bytes of all writes stand one after another in `log_bytes`, so that a write has no block of its own.
 #[derive(Drop)]
 pub(crate) struct History {
     alloc: Global,
     first: Vec<u8>,
     log: Vec<Event>,
+    log_bytes: Vec<u8>,
     clock: u64,
     content: Vec<u8>,
     waiting: Vec<Range>,
@@ -43,6 +46,7 @@ impl History {
             alloc,
             first: Vec::new(alloc),
             log: Vec::new(alloc),
+            log_bytes: Vec::new(alloc),
             clock: 0,
             content: Vec::new(alloc),
             waiting: Vec::new(alloc),
@@ -57,6 +61,7 @@ impl History {
             alloc,
             first: bytes.to_vec(alloc)?,
             log: Vec::new(alloc),
+            log_bytes: Vec::new(alloc),
             clock: 0,
             content: bytes,
             waiting: Vec::new(alloc),
@@ -87,13 +92,14 @@ impl History {
     }
 
     /// Writes, and notes the write. After an `Err` nothing has changed.
+    #[tactic(auto, using(crate::proofs::Logging::events_written))]
     pub(crate) fn write(&mut self, at: usize, bytes: &[u8]) -> Result<(), AllocError>
         requires { at ≤ length (standing self.old).content }
         ensures ok { OnOk result (self.new ≡ grown self.old (wrote self.old.clock at bytes.now)) }
         ensures err { OnErr result (self.new ≡ self.old) }
     {
-        let copy = bytes.to_vec(self.alloc)?;
         self.log.reserve(2)?;
+        self.log_bytes.reserve(bytes.len())?;
         self.waiting.reserve(1)?;
         overwrite(&mut self.content, at, bytes)?;
         let range = Range {
@@ -101,16 +107,14 @@ impl History {
             len: bytes.len(),
         };
         push_within(&mut self.waiting, range);
-        let event = Event::Write {
-            time: self.clock,
-            at,
-            bytes: copy,
-        };
-        note(&mut self.log, event);
+        extend_within(&mut self.log_bytes, bytes);
+        let (time, len) = (self.clock, bytes.len());
+        push_within(&mut self.log, Event::Write { time, at, len });
         Ok(())
     }
 
     /// Nothing waits any more.
+    #[tactic(auto, using(crate::proofs::Logging::events_synced))]
     pub(crate) fn sync(&mut self)
         ensures { self.new ≡ synced self.old }
     {
@@ -118,10 +122,11 @@ impl History {
             return;
         }
         self.waiting.clear();
-        note(&mut self.log, Event::Sync { time: self.clock });
+        push_within(&mut self.log, Event::Sync { time: self.clock });
     }
 
     /// What waits is lost, and `fill` stands in its place.
+    #[tactic(auto, using(crate::proofs::Logging::events_crashed))]
     pub(crate) fn crash(&mut self, fill: u8)
         ensures crashed { self.new ≡ crashed fill self.old }
         ensures in_time { IsInTime self.old.clock self.old.events }
@@ -132,18 +137,8 @@ impl History {
         fill_all(&mut self.content, &self.waiting, fill);
         self.waiting.clear();
         let time = self.clock;
-        note(&mut self.log, Event::Crash { time, fill });
+        push_within(&mut self.log, Event::Crash { time, fill });
     }
-}
-
-/// Notes an event where there is room.
-fn note(log: &mut Vec<Event>, event: Event)
-    requires { vec_len log.old < vec_capacity log.old }
-    ensures events { map event_of log.new.items ≡ map event_of log.old.items ++ event_of event ∷ [] }
-    ensures len { vec_len log.new ≡ vec_len log.old + 1 }
-    ensures room { vec_capacity log.old ≤ vec_capacity log.new }
-{
-    push_within(log, event)
 }
 
 /// Pushes where there is room.
@@ -154,6 +149,16 @@ fn push_within<T: Drop>(items: &mut Vec<T>, item: T)
     ensures room { vec_capacity items.old ≤ vec_capacity items.new }
 {
     if items.push(item).is_err() {
+        unreachable!()
+    }
+}
+
+/// Puts bytes at the end where there is room.
+fn extend_within(items: &mut Vec<u8>, bytes: &[u8])
+    requires { vec_len items.old + length bytes.now ≤ vec_capacity items.old }
+    ensures { items.new.items ≡ items.old.items ++ bytes.now }
+{
+    if items.extend_from_slice(bytes).is_err() {
         unreachable!()
     }
 }

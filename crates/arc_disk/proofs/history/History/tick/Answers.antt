@@ -8,6 +8,7 @@ invariant_of-self c =
     record {
       content = kept.content;
       waiting = kept.waiting;
+      bytes = kept.bytes;
       in_time = in_time_later _ _ _ (omega arith) kept.in_time;
       room = kept.room;
     }
