@@ -3,6 +3,7 @@ use Rattle.std.proofs.Common.{◌≡◌, ◌+◌, ◌%◌, ◌<◌, ◌≤◌, �
 use Rattle.std.specs.Prelude.{◌≢◌, ◌==◌}
 use Rattle.std.specs.List.{Contains}
 use Rattle.std.proofs.lemmas.Bool.{and_cases, and_parts, cases_Bool, eq-eqb, ne_eqb}
+use Rattle.arc_bytes.specs.Counts.{next_count}
 use Rattle.arc_bytes.specs.Five.{at}
 use Rattle.arc_bytes.specs.declared.five.Five.{Five}
 use Rattle.arc_data.specs.Entries.{closed_len, promise}
@@ -21,7 +22,7 @@ use Rattle.arc_cluster.specs.Attempts.{HasNewPromise, HasRisenOnce, IsAbsentPeer
 use Rattle.arc_cluster.specs.Coming.{Ended, HasCome, MayBePlaced}
 use Rattle.arc_cluster.specs.Onward.{AsksAtMost, ClusterGoesOn}
 use Rattle.arc_cluster.specs.Phases.{AreFew}
-use Rattle.arc_cluster.specs.Work.{IsUnderWay, PeersGoOn, TakesPart}
+use Rattle.arc_cluster.specs.Work.{IsUnderWay, MeetOnce, PeersGoOn, TakesPart}
 use Rattle.arc_cluster.proofs.Onward.{asks_more, asks_then, cluster_then, peers_then}
 
 -- a peer is up, and another node than the endpoint's
@@ -39,6 +40,42 @@ no_peer_down nodes endpoint node other is =
     ⊎_elim (λ same. absurd (true≢false (sym (ap not (ne_eqb node endpoint other)) ∙ same))) (λ down. down)
     (and_cases (not (node == endpoint)) (is_up (at nodes node)) is)
 
+-- nobody met trouble twice, by the last phase either
+pub once_more : {D C : Type 0} (troubles : C → ℕ → ℕ) (start mid new : Cluster D C) (first work : Work) → PeersGoOn troubles start mid first work
+    → MeetOnce troubles mid.courier new.courier work → (peer : ℕ) → peer < 5
+    → HasRisenOnce (troubles start.courier peer) (troubles new.courier peer)
+once_more troubles start mid new first work peers met peer lt =
+    ⊎_elim
+    (λ same. subst (λ (n : ℕ). HasRisenOnce (troubles start.courier peer) n) (sym same) (peers.once peer lt))
+    (λ more. inr (more.1 ∙ ap next_count (peers.are_in peer lt more.0).2)) (met peer lt)
+
+-- nobody met trouble twice in one phase
+pub met_once : {C : Type 0} (troubles : C → ℕ → ℕ) (old new : C) (work : Work) → MeetOnce troubles old new work
+    → (peer : ℕ) → peer < 5 → HasRisenOnce (troubles old peer) (troubles new peer)
+met_once troubles old new work met peer lt = ⊎_elim (λ same. inl same) (λ more. inr more.1) (met peer lt)
+
+-- nor where the courier is as it was
+pub met_same : {C : Type 0} (troubles : C → ℕ → ℕ) (old new : C) (work : Work) → new ≡ old → MeetOnce troubles old new work
+met_same troubles old new work same peer lt = inl (ap (λ (c : _). troubles c peer) same)
+
+-- who met trouble by the end of some phases was in at their beginning
+pub met_so : {D C : Type 0} (troubles : C → ℕ → ℕ) (first now : Cluster D C) (before work : Work) → PeersGoOn troubles first now before work
+    → MeetOnce troubles first.courier now.courier before
+met_so troubles first now before work peers peer lt =
+    ⊎_elim
+    (λ was_in. ⊎_elim (λ same. inl same) (λ more. inr (was_in, more)) (peers.once peer lt))
+    (λ was_out. inl (peers.others peer lt was_out)) (cases_Bool (at before.peers peer))
+
+pub met_then : {D C : Type 0} (troubles : C → ℕ → ℕ) (first mid new : Cluster D C) (before work : Work) → PeersGoOn troubles first mid before work
+    → MeetOnce troubles mid.courier new.courier work → MeetOnce troubles first.courier new.courier before
+met_then troubles first mid new before work peers met peer lt =
+    ⊎_elim
+    (λ same.
+    ⊎_elim (λ so. inl (same ∙ so)) (λ more. inr (more.0, same ∙ more.1)) (met_so troubles first mid before work peers peer lt))
+    (λ more.
+    let p = peers.are_in peer lt more.0 in
+    inr (p.0, more.1 ∙ ap next_count p.2)) (met peer lt)
+
 module _ {D C : Type 0} (faults : D → ℕ) (stops_in : D → Option ℕ) (is_tame : D → Type 0) (troubles : C → ℕ → ℕ) (is_silent : C → ℕ → Type 0)
     (asked : C → Option (ℕ → ℕ)) where
   -- What every end has: how the cluster went on, what silent peers keep, and how often fates were asked.
@@ -48,6 +85,7 @@ module _ {D C : Type 0} (faults : D → ℕ) (stops_in : D → Option ℕ) (is_t
     pub on : ClusterGoesOn faults stops_in is_tame troubles is_silent (λ d. d ≡ c) start new
     pub lists : (peer : ℕ) → peer < 5 → IsSilentPeer is_silent start.courier endpoint peer → kept (at new.nodes peer) ≡ kept (at start.nodes peer)
     pub asks : AsksAtMost (asked start.courier) (asked new.courier) (most_asked start.nodes endpoint)
+    pub once : MetTroubleOnce troubles start.courier new.courier
 
   module _ (start mid new : Cluster D C) (before : Work) (c : Command) (shown : ℕ) (left used : ℕ → ℕ) (Q : Command → Type 0)
       (come : HasCome faults stops_in is_tame troubles is_silent asked start mid before c shown left) (own : (d : Command) → Q d → d ≡ c)
@@ -66,8 +104,9 @@ module _ {D C : Type 0} (faults : D → ℕ) (stops_in : D → Option ℕ) (is_t
     asks_since = asks_then (asked start.courier) (asked mid.courier) (asked new.courier) come.few used come.asks asks
 
     -- an end in this phase
-    pub passes : ((peer : ℕ) → peer < 5 → used peer ≤ left peer) → Passed start new before.endpoint c
-    passes few = record {
+    pub passes : ((peer : ℕ) → peer < 5 → used peer ≤ left peer) → MeetOnce troubles mid.courier new.courier before
+        → Passed start new before.endpoint c
+    passes few met = record {
       of_five = come.of_five;
       was_up = come.was_up;
       on = on_since;
@@ -78,6 +117,7 @@ module _ {D C : Type 0} (faults : D → ℕ) (stops_in : D → Option ℕ) (is_t
           let a = few peer lt in
           let b = come.room peer lt in
           omega (arith, a, b)) asks_since;
+      once = once_more troubles start mid new come.first before come.peers met;
     }
 
     -- it comes on by this phase
@@ -120,6 +160,7 @@ module _ {D C : Type 0} (faults : D → ℕ) (stops_in : D → Option ℕ) (is_t
     asks =
         asks_more (asked start.courier) (asked now.courier) come.few (most_asked start.nodes work.endpoint)
         (λ peer lt. let b = come.room peer lt in omega (arith, b)) come.asks;
+    once = come.peers.once;
   }
 
   module _ (start new : Cluster D C) (endpoint : ℕ) (c : Command) (passed : Passed start new endpoint c) where
@@ -130,7 +171,7 @@ module _ {D C : Type 0} (faults : D → ℕ) (stops_in : D → Option ℕ) (is_t
       ends = (refl, (down, inr (passed.was_up, (passed.on.nodes.each endpoint passed.of_five).fallen passed.was_up down)));
       silent = record { lists = passed.lists; not_placed = λ three nowhere slot is. cc };
       asks = passed.asks;
-      once = tt;
+      once = passed.once;
     }
 
     pub ended_memory : is_up (at new.nodes endpoint) ≡ true → Ended faults stops_in is_tame troubles is_silent asked start new endpoint c Memory
@@ -139,7 +180,7 @@ module _ {D C : Type 0} (faults : D → ℕ) (stops_in : D → Option ℕ) (is_t
       ends = (passed.was_up, up);
       silent = record { lists = passed.lists; not_placed = λ three nowhere slot is. cc };
       asks = passed.asks;
-      once = tt;
+      once = passed.once;
     }
 
     -- there was no memory left, or the node went down before that
@@ -155,11 +196,10 @@ module _ {D C : Type 0} (faults : D → ℕ) (stops_in : D → Option ℕ) (is_t
     -- the slot is closed
     pub ended_closed : (slot : ℕ) (command : Command) (result : Attempt) → slot ≡ closed_len (kept (at start.nodes endpoint))
         → closed_len (kept (at new.nodes endpoint)) ≡ slot + 1 → IsSettled new.nodes endpoint slot command
-        → ((peer : ℕ) → peer < 5 → HasRisenOnce (troubles start.courier peer) (troubles new.courier peer))
         → MayBePlaced is_silent start endpoint c command
         → ((command ≡ c) × (result ≡ Placed slot)) ⊎ ((command ≢ c) × (result ≡ Other slot))
         → Ended faults stops_in is_tame troubles is_silent asked start new endpoint c result
-    ended_closed slot command result here more settled once may =
+    ended_closed slot command result here more settled may =
         let P : Attempt → Type 0 = λ r. Ended faults stops_in is_tame troubles is_silent asked start new endpoint c r in
         ⊎_elim
         (λ placed.
@@ -169,7 +209,7 @@ module _ {D C : Type 0} (faults : D → ℕ) (stops_in : D → Option ℕ) (is_t
           ends = (here, more, subst (IsSettled new.nodes endpoint slot) placed.0 settled);
           silent = record { lists = passed.lists; not_placed = λ three nowhere s is. may placed.0 three nowhere };
           asks = passed.asks;
-          once = once;
+          once = passed.once;
         }))
         (λ other.
         subst P (sym other.1)
@@ -178,7 +218,7 @@ module _ {D C : Type 0} (faults : D → ℕ) (stops_in : D → Option ℕ) (is_t
           ends = (here, more, (command, other.0, settled));
           silent = record { lists = passed.lists; not_placed = λ three nowhere s is. cc };
           asks = passed.asks;
-          once = once;
+          once = passed.once;
         }))
 
   module _ (start now : Cluster D C) (work : Work) (c : Command) (shown : ℕ) (left : ℕ → ℕ) (tally : Tally)

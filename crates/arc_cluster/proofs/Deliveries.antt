@@ -27,7 +27,7 @@ use Rattle.arc_cluster.specs.Held.{AreHeld, MayBeHeld}
 use Rattle.arc_cluster.specs.Moments.{AllHandled, LeaveSound, LeavesFronts}
 use Rattle.arc_cluster.specs.Nodes.{AreInOrder, IsChoice}
 use Rattle.arc_cluster.specs.Onward.{GoOn}
-use Rattle.arc_cluster.specs.declared.held.Letter.{Letter}
+use Rattle.arc_cluster.specs.declared.held.Envelope.{Envelope}
 use Rattle.arc_cluster.proofs.Alone.{each_of, with_here, with_others}
 use Rattle.arc_cluster.proofs.Choices.{all_handle, all_same, all_since, leave_sound, may_handle, stay_in_order}
 use Rattle.arc_cluster.proofs.Each.{Did, untouched}
@@ -107,11 +107,11 @@ module _ {D : Type 0} (disk : Ghosts D) (old new : Node D) (message : Message)
       (nothing_in_doubt disk.tells disk.content disk.may_leave new order up) calls.2.count.1)
       (up_fronts was_up (no_fewer old new list.entries))
 
--- five nodes of which the receiver of a letter handles its message
-module _ {D : Type 0} (disk : Ghosts D) (old : Five (Node D)) (letter : Letter)
-    (order : AreInOrder disk.tells disk.content disk.may_leave old) (may : MayBeHeld old letter) where
+-- five nodes of which the receiver of an envelope handles its message
+module _ {D : Type 0} (disk : Ghosts D) (old : Five (Node D)) (envelope : Envelope)
+    (order : AreInOrder disk.tells disk.content disk.may_leave old) (may : MayBeHeld old envelope) where
   abbrev mail : Mail
-  mail = to_own letter.to letter.message
+  mail = to_own envelope.to envelope.message
 
   -- what the mail has stays lawful
   stays : (js : Journals) → IsChoice old js → AllStaysLawful js mail
@@ -120,56 +120,56 @@ module _ {D : Type 0} (disk : Ghosts D) (old : Five (Node D)) (letter : Letter)
       ⊎_elim
       (λ own.
       let Q : ℕ → Type 0 = λ n. Contains (mail n) m in
-      let one_there : Contains (letter.message ∷ []) m = subst P (to_own_there letter.to letter.message) (subst Q own there) in
+      let one_there : Contains (envelope.message ∷ []) m = subst P (to_own_there envelope.to envelope.message) (subst Q own there) in
       ⊎_elim (λ same. subst (StaysLawful js) same (may.lawful js chosen)) (λ none. absurd (contains_nothing m none))
-      (contains_cons letter.message [] m one_there))
-      (λ other. absurd (contains_nothing m (subst P (to_own_other letter.to letter.message node other) there))) (cases_eq node letter.to)
+      (contains_cons envelope.message [] m one_there))
+      (λ other. absurd (contains_nothing m (subst P (to_own_other envelope.to envelope.message node other) there))) (cases_eq node envelope.to)
 
   -- and may be handled
-  pub letter_may_be_handled : MayBeHandled old mail
-  letter_may_be_handled =
-      own_may_be_handled old letter.to letter.message
-      (subst (λ (n : ℕ). IsReceivable n letter.message) (sym (order.alike letter.to may.of_five)) may.receivable)
-      (λ js chosen. staying_is_lawful js mail letter.to letter.message (may.lawful js chosen))
+  pub envelope_may_be_handled : MayBeHandled old mail
+  envelope_may_be_handled =
+      own_may_be_handled old envelope.to envelope.message
+      (subst (λ (n : ℕ). IsReceivable n envelope.message) (sym (order.alike envelope.to may.of_five)) may.receivable)
+      (λ js chosen. staying_is_lawful js mail envelope.to envelope.message (may.lawful js chosen))
 
   -- as the receiver may handle its message
-  pub receiver_may_handle : (given : Node D) (message : Message) → given ≡ at old letter.to → message ≡ letter.message
+  pub receiver_may_handle : (given : Node D) (message : Message) → given ≡ at old envelope.to → message ≡ envelope.message
       → MayHandle disk.tells disk.content disk.may_leave given (message ∷ [])
   receiver_may_handle given message is same =
       subst (λ (m : Message). MayHandle disk.tells disk.content disk.may_leave given (m ∷ [])) (sym same)
-      (subst (λ (n : Node D). MayHandle disk.tells disk.content disk.may_leave n (letter.message ∷ [])) (sym is)
-      (subst (MayHandle disk.tells disk.content disk.may_leave (at old letter.to)) (to_own_there letter.to letter.message)
-      (may_handle disk.tells disk.content disk.may_leave old mail order letter_may_be_handled letter.to may.of_five)))
+      (subst (λ (n : Node D). MayHandle disk.tells disk.content disk.may_leave n (envelope.message ∷ [])) (sym is)
+      (subst (MayHandle disk.tells disk.content disk.may_leave (at old envelope.to)) (to_own_there envelope.to envelope.message)
+      (may_handle disk.tells disk.content disk.may_leave old mail order envelope_may_be_handled envelope.to may.of_five)))
 
-  module _ (given next : Node D) (is : given ≡ at old letter.to) (did : Did disk given next (letter.message ∷ []))
+  module _ (given next : Node D) (is : given ≡ at old envelope.to) (did : Did disk given next (envelope.message ∷ []))
       (only_now : (d : D) (image : List ℕ) → disk.tells → disk.left_since d (disk.moment d) image → disk.may_leave d image) where
     abbrev new : Five (Node D)
-    new = with old letter.to next
+    new = with old envelope.to next
 
     all_handled : AllHandled disk.tells disk.content disk.may_leave disk.faults disk.moment disk.stops_in disk.is_tame
         disk.left_since old new mail
     all_handled =
-        each_of (λ n. Did disk (at old n) (at new n) (mail n)) letter.to
-        (subst (Did disk (at old letter.to) (at new letter.to)) (sym (to_own_there letter.to letter.message))
-        (subst (λ (n : Node D). Did disk (at old letter.to) n (letter.message ∷ [])) (sym (with_here old letter.to next))
-        (subst (λ (n : Node D). Did disk n next (letter.message ∷ [])) is did)))
+        each_of (λ n. Did disk (at old n) (at new n) (mail n)) envelope.to
+        (subst (Did disk (at old envelope.to) (at new envelope.to)) (sym (to_own_there envelope.to envelope.message))
+        (subst (λ (n : Node D). Did disk (at old envelope.to) n (envelope.message ∷ [])) (sym (with_here old envelope.to next))
+        (subst (λ (n : Node D). Did disk n next (envelope.message ∷ [])) is did)))
         (λ n lt ne.
-        subst (λ (x : Node D). Did disk (at old n) x (mail n)) (sym (with_others old letter.to next may.of_five n lt ne))
+        subst (λ (x : Node D). Did disk (at old n) x (mail n)) (sym (with_others old envelope.to next may.of_five n lt ne))
         (untouched disk (at old n) (mail n) only_now
-        (may_handle disk.tells disk.content disk.may_leave old mail order letter_may_be_handled n lt)))
+        (may_handle disk.tells disk.content disk.may_leave old mail order envelope_may_be_handled n lt)))
 
-    pub letter_keeps_order : AreInOrder disk.tells disk.content disk.may_leave new
-    letter_keeps_order = stay_in_order disk old new mail order letter_may_be_handled all_handled
+    pub envelope_keeps_order : AreInOrder disk.tells disk.content disk.may_leave new
+    envelope_keeps_order = stay_in_order disk old new mail order envelope_may_be_handled all_handled
 
-    pub letter_goes_on : GoOn disk.faults disk.stops_in disk.is_tame (λ c. ⊥) old new
-    letter_goes_on =
+    pub envelope_goes_on : GoOn disk.faults disk.stops_in disk.is_tame (λ c. ⊥) old new
+    envelope_goes_on =
         go_on_staying disk.faults disk.stops_in disk.is_tame old new mail stays
-        (all_handle disk old new mail order letter_may_be_handled all_handled)
-        (all_same disk old new mail order letter_may_be_handled all_handled)
-        (all_since disk old new mail order letter_may_be_handled all_handled)
+        (all_handle disk old new mail order envelope_may_be_handled all_handled)
+        (all_same disk old new mail order envelope_may_be_handled all_handled)
+        (all_since disk old new mail order envelope_may_be_handled all_handled)
 
-    pub letter_leaves_sound : disk.tells → LeaveSound disk.moment disk.left_since old new
-    letter_leaves_sound = leave_sound disk old new mail order letter_may_be_handled all_handled
+    pub envelope_leaves_sound : disk.tells → LeaveSound disk.moment disk.left_since old new
+    envelope_leaves_sound = leave_sound disk old new mail order envelope_may_be_handled all_handled
 
 -- five nodes of which none handles anything
 module _ {D : Type 0} (disk : Ghosts D) (nodes : Five (Node D)) (order : AreInOrder disk.tells disk.content disk.may_leave nodes)
@@ -186,26 +186,26 @@ module _ {D : Type 0} (disk : Ghosts D) (nodes : Five (Node D)) (order : AreInOr
       (λ n lt. untouched disk (at nodes n) [] only_now
       (may_handle disk.tells disk.content disk.may_leave nodes (λ n. []) order no_mail_may_be_handled n lt))
 
--- the letter at a place may be held, as all may
-pub letter_at : {D : Type 0} (nodes : Five (Node D)) (letters : List Letter) (k : ℕ) (letter : Letter) → AreHeld nodes letters
-    → slice_get letters k ≡ Some letter → MayBeHeld nodes letter
-letter_at nodes letters k letter held there =
-    held.each letter (k, slice_get_within letters k letter there, get_or_from_slice_get letters k letter letter there)
+-- the envelope at a place may be held, as all may
+pub envelope_at : {D : Type 0} (nodes : Five (Node D)) (envelopes : List Envelope) (k : ℕ) (envelope : Envelope) → AreHeld nodes envelopes
+    → slice_get envelopes k ≡ Some envelope → MayBeHeld nodes envelope
+envelope_at nodes envelopes k envelope held there =
+    held.each envelope (k, slice_get_within envelopes k envelope there, get_or_from_slice_get envelopes k envelope envelope there)
 
 -- there is none behind the last
-pub no_letter_there : (letters : List Letter) (k : ℕ) (letter : Letter) → slice_get letters k ≡ Some letter → length letters ≤ k → ⊥
-no_letter_there letters k letter there beyond =
-    let within : k < length letters = slice_get_within letters k letter there in
+pub no_envelope_there : (envelopes : List Envelope) (k : ℕ) (envelope : Envelope) → slice_get envelopes k ≡ Some envelope → length envelopes ≤ k → ⊥
+no_envelope_there envelopes k envelope there beyond =
+    let within : k < length envelopes = slice_get_within envelopes k envelope there in
     absurd (omega arith)
 
 -- what a delivery made of five nodes, by how the handling ended
-pub delivers_so : {D : Type 0} (faults : D → ℕ) (old new : Five (Node D)) (letters : List Letter) (k : ℕ) (letter : Letter)
-    → slice_get letters k ≡ Some letter → ((other : ℕ) → other < 5 → other ≢ letter.to → at new other ≡ at old other) → (end : HandleEnd)
-    → EndsHandling faults (at old letter.to) (at new letter.to) letter.message end
-    → EndsForMemory (at old letter.to) letter.message end → Delivers faults old new letters k (delivered_of letter.to end)
-delivers_so faults old after letters k letter there others (ends.Answered reply) done needs =
-    record { letter = letter; there = there; ends = done; others = others }
-delivers_so faults old after letters k letter there others ends.Down done needs =
-    record { letter = letter; there = there; ends = (refl, done); others = others }
-delivers_so faults old after letters k letter there others ends.Memory done needs =
-    record { letter = letter; there = there; ends = (done, needs refl); others = others }
+pub delivers_so : {D : Type 0} (faults : D → ℕ) (old new : Five (Node D)) (envelopes : List Envelope) (k : ℕ) (envelope : Envelope)
+    → slice_get envelopes k ≡ Some envelope → ((other : ℕ) → other < 5 → other ≢ envelope.to → at new other ≡ at old other) → (end : HandleEnd)
+    → EndsHandling faults (at old envelope.to) (at new envelope.to) envelope.message end
+    → EndsForMemory (at old envelope.to) envelope.message end → Delivers faults old new envelopes k (delivered_of envelope.to end)
+delivers_so faults old after envelopes k envelope there others (ends.Answered reply) done needs =
+    record { envelope = envelope; there = there; ends = done; others = others }
+delivers_so faults old after envelopes k envelope there others ends.Down done needs =
+    record { envelope = envelope; there = there; ends = (refl, done); others = others }
+delivers_so faults old after envelopes k envelope there others ends.Memory done needs =
+    record { envelope = envelope; there = there; ends = (done, needs refl); others = others }

@@ -1,6 +1,6 @@
 -- What became of each of five nodes that were handed their mail.
-use Rattle.std.proofs.Common.{◌≡◌, ℕ, List, Option, refl, subst}
-use Rattle.std.specs.Global.{Vec}
+use Rattle.std.proofs.Common.{ℕ, List, Option, refl}
+use Rattle.std.specs.Borrow.{Bor}
 use Rattle.arc_bytes.specs.Five.{at}
 use Rattle.arc_bytes.specs.declared.five.Five.{Five}
 use Rattle.arc_data.specs.declared.message.Answer.{Answer}
@@ -9,7 +9,7 @@ use Rattle.arc_disk.specs.declared.disk.Disk.{Ghosts}
 use Rattle.arc_node.specs.Node.{disk_in, HasVotesInPlace, IsInOrder, IsSameNode}
 use Rattle.arc_node.specs.declared.node.Node.{Node}
 use Rattle.arc_voting.proofs.Three.{below_five}
-use Rattle.arc_cluster.specs.Handling.{AllAnswer, AnswersAs, HandlesAll, MayHandle, mail_of}
+use Rattle.arc_cluster.specs.Handling.{AllAnswer, AnswersAs, HandlesAll, MayHandle, lent_to}
 use Rattle.arc_cluster.specs.Moments.{AllHandled, Handled, LeavesFronts}
 use Rattle.arc_cluster.specs.Since.{Since}
 use Rattle.arc_cluster.proofs.Fronts.{fronts_begin}
@@ -27,14 +27,13 @@ module _ {D : Type 0} (disk : Ghosts D) where
       Handled disk.tells disk.content disk.may_leave disk.faults disk.moment disk.stops_in disk.is_tame disk.left_since
       old new messages
 
-  -- one that handled them, lent as a slice
-  pub did : (old new : Node D) (lent messages : List Message) → lent ≡ messages
-      → IsInOrder disk.tells disk.content disk.may_leave new → HasVotesInPlace new → HandlesAll disk.faults old new lent
-      → (disk.tells → LeavesFronts disk.moment disk.left_since old new lent)
+  -- one that handled them
+  pub did : (old new : Node D) (messages : List Message)
+      → IsInOrder disk.tells disk.content disk.may_leave new → HasVotesInPlace new → HandlesAll disk.faults old new messages
+      → (disk.tells → LeavesFronts disk.moment disk.left_since old new messages)
       → Since disk.faults disk.stops_in disk.is_tame (disk_in old) (disk_in new) → IsSameNode old new → Did old new messages
-  did old new lent messages is order placed handles fronts since same =
-      subst (Did old new) is
-      (record { in_order = order; in_place = placed; handles = handles; any_moment = fronts; since = since; same = same })
+  did old new messages order placed handles fronts since same =
+      record { in_order = order; in_place = placed; handles = handles; any_moment = fronts; since = since; same = same }
 
   -- one that isn't reached
   pub untouched : (node : Node D) (messages : List Message)
@@ -52,17 +51,17 @@ module _ {D : Type 0} (disk : Ghosts D) where
   }
 
   -- each of the five
-  pub each_of_five : (old new : Five (Node D)) (mail : Five (Vec Message))
-      → Did old.d0 new.d0 mail.d0.items → Did old.d1 new.d1 mail.d1.items → Did old.d2 new.d2 mail.d2.items
-      → Did old.d3 new.d3 mail.d3.items → Did old.d4 new.d4 mail.d4.items
+  pub each_of_five : (old new : Five (Node D)) (mail : Five (Bor (List Message)))
+      → Did old.d0 new.d0 mail.d0.now → Did old.d1 new.d1 mail.d1.now → Did old.d2 new.d2 mail.d2.now
+      → Did old.d3 new.d3 mail.d3.now → Did old.d4 new.d4 mail.d4.now
       → AllHandled disk.tells disk.content disk.may_leave disk.faults disk.moment disk.stops_in disk.is_tame
-      disk.left_since old new (mail_of mail)
-  each_of_five old new mail = below_five (λ n. Did (at old n) (at new n) (mail_of mail n))
+      disk.left_since old new (lent_to mail)
+  each_of_five old new mail = below_five (λ n. Did (at old n) (at new n) (lent_to mail n))
 
 -- what each of the five answers
-pub each_answers : {D : Type 0} (old new : Five (Node D)) (mail : Five (Vec Message)) (answers : Five (Option Answer))
-    → AnswersAs old.d0 new.d0 mail.d0.items answers.d0 → AnswersAs old.d1 new.d1 mail.d1.items answers.d1
-    → AnswersAs old.d2 new.d2 mail.d2.items answers.d2 → AnswersAs old.d3 new.d3 mail.d3.items answers.d3
-    → AnswersAs old.d4 new.d4 mail.d4.items answers.d4 → AllAnswer old new (mail_of mail) answers
+pub each_answers : {D : Type 0} (old new : Five (Node D)) (mail : Five (Bor (List Message))) (answers : Five (Option Answer))
+    → AnswersAs old.d0 new.d0 mail.d0.now answers.d0 → AnswersAs old.d1 new.d1 mail.d1.now answers.d1
+    → AnswersAs old.d2 new.d2 mail.d2.now answers.d2 → AnswersAs old.d3 new.d3 mail.d3.now answers.d3
+    → AnswersAs old.d4 new.d4 mail.d4.now answers.d4 → AllAnswer old new (lent_to mail) answers
 each_answers old new mail answers =
-    below_five (λ n. AnswersAs (at old n) (at new n) (mail_of mail n) (at answers n))
+    below_five (λ n. AnswersAs (at old n) (at new n) (lent_to mail n) (at answers n))

@@ -5,7 +5,6 @@ use Rattle.std.specs.List.{Contains, slice_get}
 use Rattle.std.proofs.lemmas.Bool.{cases_Bool, cases_lt, ltb-true}
 use Rattle.std.proofs.lemmas.Option.{get_or_from_slice_get, slice_get_within}
 use Rattle.std.proofs.lemmas.List.Elements.{All-get_or, Contains-append_left, Contains-push, filter_map-append}
-use Rattle.arc_bytes.specs.Counts.{next_count}
 use Rattle.arc_bytes.specs.Five.{at}
 use Rattle.arc_bytes.specs.declared.five.Five.{Five}
 use Rattle.arc_data.specs.Entries.{closed_len, promise}
@@ -36,7 +35,7 @@ use Rattle.arc_voting.proofs.Meeting.{meet, some_of_three}
 use Rattle.arc_voting.proofs.Proposing.{told_stands}
 use Rattle.arc_voting.proofs.Three.{by_three_map}
 use Rattle.arc_voting.proofs.Uses.{applied_length, closed_below}
-use Rattle.arc_cluster.specs.Attempts.{HasRisenOnce, IsAbsentPeer, IsAppliedNowhere, is_peer, most_asked}
+use Rattle.arc_cluster.specs.Attempts.{IsAbsentPeer, IsAppliedNowhere, is_peer, most_asked}
 use Rattle.arc_cluster.specs.Coming.{HasCome, MayBePlaced, asks_left, asks_left_to_tell}
 use Rattle.arc_cluster.specs.Nodes.{AllFollow, AreInOrder, IsChoice}
 use Rattle.arc_cluster.specs.Onward.{AsksAtMost, ClusterGoesOn, GoOn}
@@ -45,7 +44,7 @@ use Rattle.arc_cluster.specs.Work.{IsSameWork, IsUnderWay, MeetOnce, PeersGoOn, 
 use Rattle.arc_cluster.specs.declared.cluster.Cluster.{Cluster}
 use Rattle.arc_cluster.specs.declared.work.Work.{Work}
 use Rattle.arc_cluster.proofs.Choices.{kept_are_chosen, kept_of}
-use Rattle.arc_cluster.proofs.Coming.{Passed, endpoint_no_peer, peer_up}
+use Rattle.arc_cluster.proofs.Coming.{Passed, endpoint_no_peer, met_once, peer_up}
 use Rattle.arc_cluster.proofs.Onward.{asks_more, asks_none, cluster_widened}
 use Rattle.arc_cluster.proofs.PeerVotes.{possible_holds}
 use Rattle.arc_cluster.proofs.Placing.{may_be_attempted_still}
@@ -266,15 +265,6 @@ by_known is_silent start now work endpoint c command same (node, lt, is_in, ther
     ap (λ (xs : List Record). slice_get (applied xs) work.slot) (sym (same node lt)) ∙ there ∙ ap Some is in
     nowhere node lt (command_at (applied (kept (at start.nodes node))) work.slot c here)
 
--- nobody met trouble twice, by the last phase either
-pub once_more : {D C : Type 0} (troubles : C → ℕ → ℕ) (start mid new : Cluster D C) (first work : Work) → PeersGoOn troubles start mid first work
-    → MeetOnce troubles mid.courier new.courier work → (peer : ℕ) → peer < 5
-    → HasRisenOnce (troubles start.courier peer) (troubles new.courier peer)
-once_more troubles start mid new first work peers met peer lt =
-    ⊎_elim
-    (λ same. subst (λ (n : ℕ). HasRisenOnce (troubles start.courier peer) n) (sym same) (peers.once peer lt))
-    (λ more. inr (more.1 ∙ ap next_count (peers.are_in peer lt more.0).2)) (met peer lt)
-
 -- a command may be attempted on, from phase to phase
 pub still_may_then : {D : Type 0} (faults : D → ℕ) (stops_in : D → Option ℕ) (is_tame : D → Type 0) (old new : Five (Node D)) (before after : Work) (c : Command)
     → IsUnderWay old before → IsUnderWay new after → IsSameWork before after → MayBeAttempted old before.endpoint c
@@ -341,8 +331,9 @@ module _ {D C : Type 0} (faults : D → ℕ) (stops_in : D → Option ℕ) (is_t
     (lists : (node : ℕ) → node < 5 → kept (at mid.nodes node) ≡ kept (at old.nodes node))
     (asks : AsksAtMost (asked old.courier) (asked mid.courier) (λ peer. if at before.peers peer then 1 else 0)) where
   -- an attempt that ends in its first phase
-  pub passes_first : Passed faults stops_in is_tame troubles is_silent asked old mid before.endpoint c
-  passes_first = record {
+  pub passes_first : MeetOnce troubles old.courier mid.courier before
+      → Passed faults stops_in is_tame troubles is_silent asked old mid before.endpoint c
+  passes_first met = record {
     of_five = under_way.peers.of_five;
     was_up = under_way.up;
     on = cluster_widened faults stops_in is_tame troubles is_silent (λ d. ⊥) (λ d. d ≡ c) (λ d none. absurd none) old mid on;
@@ -350,6 +341,7 @@ module _ {D C : Type 0} (faults : D → ℕ) (stops_in : D → Option ℕ) (is_t
     asks =
         asks_more (asked old.courier) (asked mid.courier) (λ peer. if at before.peers peer then 1 else 0) (most_asked old.nodes before.endpoint)
         (λ peer lt. first_asked old.nodes before.endpoint before peer (first_in peer lt)) asks;
+    once = met_once troubles old.courier mid.courier before met;
   }
 
   -- and one that has come through it

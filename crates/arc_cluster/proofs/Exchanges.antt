@@ -27,7 +27,7 @@ use Rattle.arc_cluster.specs.Onward.{IsForUp}
 use Rattle.arc_cluster.specs.Work.{HasPeers, IsSameWork, MeetOnce, PeersGoOn}
 use Rattle.arc_cluster.specs.declared.cluster.Cluster.{Cluster}
 use Rattle.arc_cluster.specs.declared.work.Work.{Work}
-use Rattle.arc_cluster.proofs.Holding.{letter_to}
+use Rattle.arc_cluster.proofs.Holding.{envelope_to}
 
 -- a fate that wasn't asked, and one that was
 never : (b : Bool) → ◌≡◌ {A = ℕ} 0 (if b then 1 else 0) → b ≡ false
@@ -257,7 +257,7 @@ module _ {D : Type 0} (nodes : Five (Node D)) (work : Work) (mail left : Mail) (
 -- each message of mail that may be exchanged may be held
 pub may_be_kept : {D : Type 0} (nodes : Five (Node D)) (work : Work) (mail : Mail) → MayBeExchanged nodes work mail
     → ((node : ℕ) → node < 5 → slots_in (at nodes node) ≡ slots_in nodes.d0) → (node : ℕ) (m : Message) → node < 5 → Contains (mail node) m
-    → MayBeHeld nodes (letter_to node m)
+    → MayBeHeld nodes (envelope_to node m)
 may_be_kept nodes work mail may alike node m lt there = record {
   of_five = lt;
   receivable =
@@ -356,7 +356,7 @@ meet_once troubles asked is_silent nodes work before after mail fates facts may 
 pub kept_for_up : {D C : Type 0} (troubles : C → ℕ → ℕ) (asked : C → Option (ℕ → ℕ)) (is_silent : C → ℕ → Type 0) (nodes : Five (Node D)) (work : Work)
     (before after : C) (mail : Mail) (fates : Five (Option Fate)) → AreFates troubles asked is_silent before after work.endpoint mail fates
     → HasPeers nodes work → MayBeExchanged nodes work mail → (node : ℕ) (m : Message) → node < 5 → keeps_copies (at fates node) ≡ true
-    → Contains (mail node) m → IsForUp nodes (letter_to node m)
+    → Contains (mail node) m → IsForUp nodes (envelope_to node m)
 kept_for_up troubles asked is_silent nodes work before after mail fates facts peers may node m lt kept there = (
   lt,
   peers.in_up node lt

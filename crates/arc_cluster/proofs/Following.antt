@@ -14,11 +14,11 @@ use Rattle.arc_voting.proofs.Contained.{contains_take}
 use Rattle.arc_voting.proofs.Grown.{handled_grow, stays_while_they_grow}
 use Rattle.arc_voting.proofs.Handling.{new_votes_were_asked_for}
 use Rattle.arc_cluster.specs.Handling.{AllHandle}
-use Rattle.arc_cluster.specs.Held.{AreHeld, MayBeHeld, with_letters}
+use Rattle.arc_cluster.specs.Held.{AreHeld, MayBeHeld, with_envelopes}
 use Rattle.arc_cluster.specs.Nodes.{AllFollow, AreSame, HaveSameChoices}
-use Rattle.arc_cluster.specs.declared.held.Letter.{Letter}
+use Rattle.arc_cluster.specs.declared.held.Envelope.{Envelope}
 use Rattle.arc_cluster.proofs.Choices.{choice_before, grows_then}
-use Rattle.arc_cluster.proofs.Holding.{each_held, few_held, letter_to}
+use Rattle.arc_cluster.proofs.Holding.{each_held, few_held, envelope_to}
 
 -- journals that stay have grown
 pub grows_not : (js : Journals) → Grows js js
@@ -77,51 +77,51 @@ module _ {D : Type 0} where
       let f = first node lt in let s = second node lt in (s.0 ∙ f.0, s.1 ∙ f.1)
 
   -- where nothing is held, it may be
-  pub nothing_is_held : (nodes : Five (Node D)) (letters : List Letter) → letters ≡ [] → AreHeld nodes letters
-  nothing_is_held nodes letters none = subst (AreHeld nodes) (sym none) (record {
-    each = λ letter there. let below : there.0 < 0 = there.1 in absurd (omega arith);
+  pub nothing_is_held : (nodes : Five (Node D)) (envelopes : List Envelope) → envelopes ≡ [] → AreHeld nodes envelopes
+  nothing_is_held nodes envelopes none = subst (AreHeld nodes) (sym none) (record {
+    each = λ envelope there. let below : there.0 < 0 = there.1 in absurd (omega arith);
     few = omega arith;
   })
 
   -- what may be held may be held while nodes go on
-  pub may_be_held_still : (old new : Five (Node D)) (begins : Command → Type 0) (letter : Letter)
-      → AllFollow old new begins → AreSame old new → MayBeHeld old letter → MayBeHeld new letter
-  may_be_held_still old new begins letter follow same may = record {
+  pub may_be_held_still : (old new : Five (Node D)) (begins : Command → Type 0) (envelope : Envelope)
+      → AllFollow old new begins → AreSame old new → MayBeHeld old envelope → MayBeHeld new envelope
+  may_be_held_still old new begins envelope follow same may = record {
     of_five = may.of_five;
-    receivable = subst (λ (n : ℕ). IsReceivable n letter.message) (sym (same 0 (omega arith)).1) may.receivable;
+    receivable = subst (λ (n : ℕ). IsReceivable n envelope.message) (sym (same 0 (omega arith)).1) may.receivable;
     lawful = λ js chosen.
         let f = follow js chosen in
-        stays_while_they_grow f.before js letter.message f.grown (may.lawful f.before f.possible);
+        stays_while_they_grow f.before js envelope.message f.grown (may.lawful f.before f.possible);
   }
 
   -- so all that is held is
-  pub held_still : (old new : Five (Node D)) (begins : Command → Type 0) (letters : List Letter)
-      → AllFollow old new begins → AreSame old new → AreHeld old letters → AreHeld new letters
-  held_still old new begins letters follow same held = record {
-    each = λ letter there. may_be_held_still old new begins letter follow same (held.each letter there);
+  pub held_still : (old new : Five (Node D)) (begins : Command → Type 0) (envelopes : List Envelope)
+      → AllFollow old new begins → AreSame old new → AreHeld old envelopes → AreHeld new envelopes
+  held_still old new begins envelopes follow same held = record {
+    each = λ envelope there. may_be_held_still old new begins envelope follow same (held.each envelope there);
     few = held.few;
   }
 
   -- as it is in a phase
-  pub held_by_handling : (faults : D → ℕ) (old new : Five (Node D)) (mail : Mail) (letters : List Letter)
-      → AllHandle faults old new mail → AreSame old new → AreHeld old letters → AreHeld new letters
-  held_by_handling faults old new mail letters handle same held =
-      held_still old new (IsAskedFor mail) letters (all_follow faults old new mail handle) same held
+  pub held_by_handling : (faults : D → ℕ) (old new : Five (Node D)) (mail : Mail) (envelopes : List Envelope)
+      → AllHandle faults old new mail → AreSame old new → AreHeld old envelopes → AreHeld new envelopes
+  held_by_handling faults old new mail envelopes handle same held =
+      held_still old new (IsAskedFor mail) envelopes (all_follow faults old new mail handle) same held
 
-  module _ (nodes : Five (Node D)) (letters : List Letter) (to : ℕ) (messages : List Message) (held : AreHeld nodes letters)
-      (may : (m : Message) → Contains messages m → MayBeHeld nodes (letter_to to m)) where
+  module _ (nodes : Five (Node D)) (envelopes : List Envelope) (to : ℕ) (messages : List Message) (held : AreHeld nodes envelopes)
+      (may : (m : Message) → Contains messages m → MayBeHeld nodes (envelope_to to m)) where
     -- messages that may be held, behind what is held
-    pub held_with : AreHeld nodes (with_letters letters to messages)
+    pub held_with : AreHeld nodes (with_envelopes envelopes to messages)
     held_with = record {
-      each = each_held (MayBeHeld nodes) letters to messages held.each may;
-      few = few_held letters to messages held.few;
+      each = each_held (MayBeHeld nodes) envelopes to messages held.each may;
+      few = few_held envelopes to messages held.few;
     }
 
     -- and the first of them
-    pub held_with_some : (n : ℕ) → AreHeld nodes (with_letters letters to (take n messages))
+    pub held_with_some : (n : ℕ) → AreHeld nodes (with_envelopes envelopes to (take n messages))
     held_with_some n = record {
       each =
-          each_held (MayBeHeld nodes) letters to (take n messages) held.each
+          each_held (MayBeHeld nodes) envelopes to (take n messages) held.each
           (λ m there. may m (contains_take n messages m there));
-      few = few_held letters to (take n messages) held.few;
+      few = few_held envelopes to (take n messages) held.few;
     }

@@ -25,8 +25,8 @@ pub mod Adoptions
 pub mod Posting
 pub mod Exchanges
 pub mod Statuses
-pub mod Taught
-pub mod Teaching
+pub mod CaughtUp
+pub mod CatchingUp
 pub mod Digits
 pub mod Sending
 pub mod Placing

@@ -26,14 +26,14 @@ use Rattle.arc_cluster.specs.Onward.{AsksAtMost, AsksExactly, ClusterGoesOn, Goe
 use Rattle.arc_cluster.specs.Since.{AllSince}
 use Rattle.arc_cluster.specs.Work.{HasPeers, IsSameWork, PeersGoOn}
 use Rattle.arc_cluster.specs.declared.cluster.Cluster.{Cluster}
-use Rattle.arc_cluster.specs.declared.held.Letter.{Letter}
+use Rattle.arc_cluster.specs.declared.held.Envelope.{Envelope}
 use Rattle.arc_cluster.specs.declared.work.Work.{Work}
 use Rattle.arc_cluster.proofs.Choices.{choice_before, grows_then}
 use Rattle.arc_cluster.proofs.Quiet.{since_same, since_then}
 
 -- nothing is in an empty list
-pub not_there : (letter : Letter) → Contains [] letter → ⊥
-not_there letter there = let below : there.0 < 0 = there.1 in absurd (omega arith)
+pub not_there : (envelope : Envelope) → Contains [] envelope → ⊥
+not_there envelope there = let below : there.0 < 0 = there.1 in absurd (omega arith)
 
 -- a count that stays hasn't fallen
 pub not_fallen_same : (count : ℕ) → HasNotFallen count count
@@ -210,17 +210,17 @@ module _ {D : Type 0} where
     }
 
     -- what may be held may be held still
-    pub held_on : (begins : Command → Type 0) (old new : Five (Node D)) (letters : List Letter) → GoOn faults stops_in is_tame begins old new
-        → AreHeld old letters → AreHeld new letters
-    held_on begins old new letters on held = record {
-      each = λ letter there.
-          let may = held.each letter there in
+    pub held_on : (begins : Command → Type 0) (old new : Five (Node D)) (envelopes : List Envelope) → GoOn faults stops_in is_tame begins old new
+        → AreHeld old envelopes → AreHeld new envelopes
+    held_on begins old new envelopes on held = record {
+      each = λ envelope there.
+          let may = held.each envelope there in
           record {
             of_five = may.of_five;
-            receivable = subst (λ (n : ℕ). IsReceivable n letter.message) (sym (on.same 0 (omega arith)).1) may.receivable;
+            receivable = subst (λ (n : ℕ). IsReceivable n envelope.message) (sym (on.same 0 (omega arith)).1) may.receivable;
             lawful = λ js chosen.
                 let f = on.follow js chosen in
-                stays_while_they_grow f.before js letter.message f.grown (may.lawful f.before f.possible);
+                stays_while_they_grow f.before js envelope.message f.grown (may.lawful f.before f.possible);
           };
       few = held.few;
     }
@@ -231,7 +231,7 @@ module _ {D C : Type 0} (faults : D → ℕ) (stops_in : D → Option ℕ) (is_t
       → ClusterGoesOn faults stops_in is_tame troubles is_silent begins cluster cluster
   cluster_same begins cluster = record {
     nodes = go_on_same faults stops_in is_tame begins cluster.nodes;
-    held = ([], sym (append-nil (held_in cluster)), λ letter there. absurd (not_there letter there));
+    held = ([], sym (append-nil (held_in cluster)), λ envelope there. absurd (not_there envelope there));
     troubles_stay = λ peer lt. not_fallen_same _;
     silent_stay = λ peer lt silent. silent;
   }
@@ -247,12 +247,12 @@ module _ {D C : Type 0} (faults : D → ℕ) (stops_in : D → Option ℕ) (is_t
         nodes = go_on_then faults stops_in is_tame P Q R p q old.nodes mid.nodes new.nodes first.nodes second.nodes;
         held = (
           f.0 ++ s.0,
-          s.1 ∙ ap (λ (xs : List Letter). xs ++ s.0) f.1 ∙ append_assoc (held_in old) f.0 s.0,
-          λ letter there.
-              ⊎_elim (f.2 letter)
+          s.1 ∙ ap (λ (xs : List Envelope). xs ++ s.0) f.1 ∙ append_assoc (held_in old) f.0 s.0,
+          λ envelope there.
+              ⊎_elim (f.2 envelope)
               (λ behind.
-              let for_up = s.2 letter behind in
-              (for_up.0, ((first.nodes.each letter.to for_up.0).was_up for_up.1).0)) (Contains-append_cases f.0 s.0 letter there),
+              let for_up = s.2 envelope behind in
+              (for_up.0, ((first.nodes.each envelope.to for_up.0).was_up for_up.1).0)) (Contains-append_cases f.0 s.0 envelope there),
         );
         troubles_stay = λ peer lt. not_fallen_then _ _ _ (first.troubles_stay peer lt) (second.troubles_stay peer lt);
         silent_stay = λ peer lt silent. second.silent_stay peer lt (first.silent_stay peer lt silent);

@@ -152,7 +152,7 @@ module _ {D C : Type 0} (faults : D → ℕ) (stops_in : D → Option ℕ) (is_t
       may_be_attempted_still faults stops_in is_tame (λ d. d ≡ c) old.nodes new.nodes node c lt may on.nodes (λ d is same. is)
       (unapplied_still (kept (at old.nodes node)) (kept (at new.nodes node)) more.0 c more.1 may.unapplied behind)
 
-  pub attempt_may_follow : (end : Attempt) → EndsAttempt faults troubles old new node c end → MayFollow new.nodes node c end
+  pub attempt_may_follow : (end : Attempt) → EndsAttempt faults troubles old new node c end → MayFollow old.nodes new.nodes node c end
   attempt_may_follow (Placed slot) ends = tt
   attempt_may_follow (Other slot) (is, one_more, (other, differs, settled)) =
       follows (λ k above below same.
@@ -163,7 +163,7 @@ module _ {D C : Type 0} (faults : D → ℕ) (stops_in : D → Option ℕ) (is_t
   attempt_may_follow (Disturbed tally) (tallied, as_long, promised) = follows (λ k above below same. absurd (omega (arith, above, below, as_long)))
   attempt_may_follow (NodeDown down) ends = tt
   attempt_may_follow (ListFull most) (slots, full, same) = subst (λ (cluster : Cluster D C). MayBeAttempted cluster.nodes node c) (sym same) may
-  attempt_may_follow Memory ends = tt
+  attempt_may_follow Memory ends = λ as_long. follows (λ k above below same. absurd (omega (arith, above, below, as_long)))
 
 pub attempts_may_follow : {D C : Type 0} (faults : D → ℕ) (stops_in : D → Option ℕ) (is_tame : D → Type 0) (troubles : C → ℕ → ℕ)
     (is_silent : C → ℕ → Type 0) → AttemptsMayFollow faults stops_in is_tame troubles is_silent

@@ -1,5 +1,5 @@
 -- What the courier says of five nodes, and what is held after it.
-use Rattle.std.proofs.Common.{◌≡◌, ◌+◌, ◌<◌, ◌≤◌, ◌⊎◌, ⊎_elim, ℕ, zero, suc, Bool, true, false, if◌then◌else◌, List, Option, None, Some, [], ◌∷◌, ◌++◌, length, take, inl, inr, refl, sym, ◌∙◌, ap, subst, arith, append-nil, append_assoc}
+use Rattle.std.proofs.Common.{◌≡◌, ◌+◌, ◌<◌, ◌≤◌, ◌⊎◌, ⊎_elim, ℕ, zero, suc, Bool, true, false, if◌then◌else◌, List, Option, [], ◌∷◌, ◌++◌, length, take, inl, inr, refl, sym, ◌∙◌, ap, subst, arith, append-nil, append_assoc}
 use Rattle.std.specs.Prelude.{Contains, ◌==◌, ◌&&◌, ◌||◌, nat_lt, not}
 use Rattle.std.proofs.lemmas.Bool.{cases_cond}
 use Rattle.std.proofs.lemmas.List.Elements.{Contains-append_cases, Contains-push_cases}
@@ -16,14 +16,14 @@ use Rattle.arc_voting.proofs.Three.{below_five}
 use Rattle.arc_cluster.specs.Cluster.{held_in}
 use Rattle.arc_cluster.specs.Exchange.{has_messages}
 use Rattle.arc_cluster.specs.Fates.{AreFates, IsAskedOf, IsFateOf, IsPartOfCopies, is_asked, keeps_copies, meets_trouble, with_copies}
-use Rattle.arc_cluster.specs.Held.{AreHeld, MayBeHeld, with_letter, with_letters}
+use Rattle.arc_cluster.specs.Held.{AreHeld, MayBeHeld, with_envelope, with_envelopes}
 use Rattle.arc_cluster.specs.Onward.{AsksAtMost, AsksExactly, ClusterGoesOn, GoOn, HasNotFallen, HoldsMore}
 use Rattle.arc_cluster.specs.declared.cluster.Cluster.{Cluster}
 use Rattle.arc_cluster.specs.declared.held.Held.{Held}
-use Rattle.arc_cluster.specs.declared.held.Letter.{Letter}
+use Rattle.arc_cluster.specs.declared.held.Envelope.{Envelope}
 use Rattle.arc_cluster.proofs.Each.{five_of}
 use Rattle.arc_cluster.proofs.Following.{held_with, held_with_some}
-use Rattle.arc_cluster.proofs.Holding.{letter_to}
+use Rattle.arc_cluster.proofs.Holding.{envelope_to}
 use Rattle.arc_cluster.proofs.Onward.{asks_exactly_as, asks_exactly_most, asks_exactly_then, next_not_fallen, not_fallen_same}
 
 or_false : (b : Bool) → (b || false) ≡ b
@@ -133,90 +133,108 @@ module _ {C : Type 0} (troubles : C → ℕ → ℕ) (asked : C → Option (ℕ 
           a4.silent_stay p (a3.silent_stay p (a2.silent_stay p (a1.silent_stay p (a0.silent_stay p silent))));
     }
 
--- Letters with more behind them, of each of which this holds.
-abbrev pub HasBehind : (Letter → Type 0) → List Letter → List Letter → Type 0
-HasBehind P first last = (more : List Letter) × (last ≡ first ++ more) × ((letter : Letter) → Contains more letter → P letter)
+-- Envelopes with more behind them, of each of which this holds.
+abbrev pub HasBehind : (Envelope → Type 0) → List Envelope → List Envelope → Type 0
+HasBehind P first last = (more : List Envelope) × (last ≡ first ++ more) × ((envelope : Envelope) → Contains more envelope → P envelope)
 
-module _ (P : Letter → Type 0) where
-  nothing_behind : (letters : List Letter) → HasBehind P letters letters
-  nothing_behind letters =
-      ([], sym (append-nil letters), λ letter there. let below : there.0 < 0 = there.1 in absurd (omega arith))
+module _ (P : Envelope → Type 0) where
+  nothing_behind : (envelopes : List Envelope) → HasBehind P envelopes envelopes
+  nothing_behind envelopes =
+      ([], sym (append-nil envelopes), λ envelope there. let below : there.0 < 0 = there.1 in absurd (omega arith))
 
-  one_behind : (letters : List Letter) (letter : Letter) → P letter → HasBehind P letters (with_letter letters letter)
-  one_behind letters letter holds =
+  one_behind : (envelopes : List Envelope) (envelope : Envelope) → P envelope → HasBehind P envelopes (with_envelope envelopes envelope)
+  one_behind envelopes envelope holds =
       ⊎_elim
-      (λ held. (letter ∷ [], held, λ l there. ⊎_elim (λ before. absurd (no_letter l before)) (λ same. subst P same holds) (Contains-push_cases [] letter l there)))
-      (λ lost. subst (HasBehind P letters) (sym lost) (nothing_behind letters))
-      (cases_cond (nat_lt (length letters) 4096) (letters ++ letter ∷ []) letters (with_letter letters letter) refl)
+      (λ held. (envelope ∷ [], held, λ l there. ⊎_elim (λ before. absurd (no_envelope l before)) (λ same. subst P same holds) (Contains-push_cases [] envelope l there)))
+      (λ lost. subst (HasBehind P envelopes) (sym lost) (nothing_behind envelopes))
+      (cases_cond (nat_lt (length envelopes) 4096) (envelopes ++ envelope ∷ []) envelopes (with_envelope envelopes envelope) refl)
     where
-      no_letter : (l : Letter) → Contains [] l → ⊥
-      no_letter l there = let below : there.0 < 0 = there.1 in absurd (omega arith)
+      no_envelope : (l : Envelope) → Contains [] l → ⊥
+      no_envelope l there = let below : there.0 < 0 = there.1 in absurd (omega arith)
 
   -- what is behind what is behind
-  behind_then : (first mid last : List Letter) → HasBehind P first mid → HasBehind P mid last → HasBehind P first last
+  behind_then : (first mid last : List Envelope) → HasBehind P first mid → HasBehind P mid last → HasBehind P first last
   behind_then first mid last (a, is, each) (b, then_is, then_each) = (
     a ++ b,
-    then_is ∙ ap (λ (xs : List Letter). xs ++ b) is ∙ append_assoc first a b,
-    λ letter there. ⊎_elim (each letter) (then_each letter) (Contains-append_cases a b letter there),
+    then_is ∙ ap (λ (xs : List Envelope). xs ++ b) is ∙ append_assoc first a b,
+    λ envelope there. ⊎_elim (each envelope) (then_each envelope) (Contains-append_cases a b envelope there),
   )
 
-  some_behind : (letters : List Letter) (to : ℕ) (messages : List Message) → ((m : Message) → Contains messages m → P (letter_to to m))
-      → HasBehind P letters (with_letters letters to messages)
-  some_behind letters to [] each = nothing_behind letters
-  some_behind letters to (m ∷ later) each =
-      behind_then letters (with_letter letters (letter_to to m)) (with_letters letters to (m ∷ later))
-      (one_behind letters (letter_to to m) (each m (contains_head m later)))
-      (some_behind (with_letter letters (letter_to to m)) to later (λ n there. each n (contains_tail m later n there)))
+  some_behind : (envelopes : List Envelope) (to : ℕ) (messages : List Message) → ((m : Message) → Contains messages m → P (envelope_to to m))
+      → HasBehind P envelopes (with_envelopes envelopes to messages)
+  some_behind envelopes to [] each = nothing_behind envelopes
+  some_behind envelopes to (m ∷ later) each =
+      behind_then envelopes (with_envelope envelopes (envelope_to to m)) (with_envelopes envelopes to (m ∷ later))
+      (one_behind envelopes (envelope_to to m) (each m (contains_head m later)))
+      (some_behind (with_envelope envelopes (envelope_to to m)) to later (λ n there. each n (contains_tail m later n there)))
 
-  module _ (letters : List Letter) (fates : Five (Option Fate)) (mail : Mail)
-      (each : (node : ℕ) (m : Message) → node < 5 → keeps_copies (at fates node) ≡ true → Contains (mail node) m → P (letter_to node m)) where
+  module _ (envelopes : List Envelope) (fates : Five (Option Fate)) (mail : Mail)
+      (each : (node : ℕ) (m : Message) → node < 5 → keeps_copies (at fates node) ≡ true → Contains (mail node) m → P (envelope_to node m)) where
     kept_each : (b : Bool) (node : ℕ) → node < 5 → (b ≡ true → keeps_copies (at fates node) ≡ true) → (m : Message)
-        → Contains (if b then mail node else []) m → P (letter_to node m)
+        → Contains (if b then mail node else []) m → P (envelope_to node m)
     kept_each true node lt kept m there = each node m lt (kept refl) there
     kept_each false node lt kept m there = let below : there.0 < 0 = there.1 in absurd (omega arith)
 
-    copies_behind : (n : ℕ) → n ≤ 5 → HasBehind P letters (with_copies letters fates mail n)
-    copies_behind zero le = nothing_behind letters
+    copies_behind : (n : ℕ) → n ≤ 5 → HasBehind P envelopes (with_copies envelopes fates mail n)
+    copies_behind zero le = nothing_behind envelopes
     copies_behind (suc n) le =
-        behind_then letters (with_copies letters fates mail n) (with_copies letters fates mail (suc n)) (copies_behind n (omega arith))
-        (some_behind (with_copies letters fates mail n) n (if keeps_copies (at fates n) then mail n else [])
+        behind_then envelopes (with_copies envelopes fates mail n) (with_copies envelopes fates mail (suc n)) (copies_behind n (omega arith))
+        (some_behind (with_copies envelopes fates mail n) n (if keeps_copies (at fates n) then mail n else [])
         (kept_each (keeps_copies (at fates n)) n (omega arith) (λ kept. kept)))
 
     -- copies of the mail, and a part of them, are behind what was held
-    pub all_behind : (later : List Letter) → later ≡ with_copies letters fates mail 5 → HasBehind P letters later
-    all_behind later is = subst (HasBehind P letters) (sym is) (copies_behind 5 (omega arith))
+    pub all_behind : (later : List Envelope) → later ≡ with_copies envelopes fates mail 5 → HasBehind P envelopes later
+    all_behind later is = subst (HasBehind P envelopes) (sym is) (copies_behind 5 (omega arith))
 
-    pub part_behind : (later : List Letter) → IsPartOfCopies letters later fates mail → HasBehind P letters later
+    pub part_behind : (later : List Envelope) → IsPartOfCopies envelopes later fates mail → HasBehind P envelopes later
     part_behind later (node, n, lt, kept, is) =
-        subst (HasBehind P letters) (sym is)
-        (behind_then letters (with_copies letters fates mail node) (with_letters (with_copies letters fates mail node) node (take n (mail node)))
+        subst (HasBehind P envelopes) (sym is)
+        (behind_then envelopes (with_copies envelopes fates mail node) (with_envelopes (with_copies envelopes fates mail node) node (take n (mail node)))
         (copies_behind node (omega arith))
-        (some_behind (with_copies letters fates mail node) node (take n (mail node))
+        (some_behind (with_copies envelopes fates mail node) node (take n (mail node))
         (λ m there. each node m lt kept (contains_take n (mail node) m there))))
 
-module _ {D : Type 0} (nodes : Five (Node D)) (letters : List Letter) (fates : Five (Option Fate)) (mail : Mail) (held : AreHeld nodes letters)
-    (may : (node : ℕ) (m : Message) → node < 5 → Contains (mail node) m → MayBeHeld nodes (letter_to node m)) where
+-- the copies that are held once those of a node's mail are too, or once none of it are
+pub copies_kept : (envelopes now later : List Envelope) (fates : Five (Option Fate)) (mail : Mail) (node : ℕ) (messages : List Message)
+    → keeps_copies (at fates node) ≡ true → now ≡ with_copies envelopes fates mail node → messages ≡ mail node
+    → later ≡ with_envelopes now node messages → later ≡ with_copies envelopes fates mail (node + 1)
+copies_kept envelopes now later fates mail node messages kept before is added =
+    let next : node + 1 ≡ suc node = omega arith in
+    subst (λ (n : ℕ). later ≡ with_copies envelopes fates mail n) (sym next)
+    (added ∙ ap (λ (ms : List Message). with_envelopes now node ms) is
+    ∙ ap (λ (xs : List Envelope). with_envelopes xs node (mail node)) before
+    ∙ ap (λ (b : Bool). with_envelopes (with_copies envelopes fates mail node) node (if b then mail node else [])) (sym kept))
+
+pub copies_left : (envelopes now : List Envelope) (fates : Five (Option Fate)) (mail : Mail) (node : ℕ)
+    → keeps_copies (at fates node) ≡ false → now ≡ with_copies envelopes fates mail node → now ≡ with_copies envelopes fates mail (node + 1)
+copies_left envelopes now fates mail node left before =
+    let next : node + 1 ≡ suc node = omega arith in
+    subst (λ (n : ℕ). now ≡ with_copies envelopes fates mail n) (sym next)
+    (before ∙ ap (λ (b : Bool). with_envelopes (with_copies envelopes fates mail node) node (if b then mail node else [])) (sym left))
+
+module _ {D : Type 0} (nodes : Five (Node D)) (envelopes : List Envelope) (fates : Five (Option Fate)) (mail : Mail) (held : AreHeld nodes envelopes)
+    (may : (node : ℕ) (m : Message) → node < 5 → Contains (mail node) m → MayBeHeld nodes (envelope_to node m)) where
   -- what is kept of a node's mail may be held
-  kept_may : (b : Bool) (node : ℕ) (m : Message) → node < 5 → Contains (if b then mail node else []) m → MayBeHeld nodes (letter_to node m)
+  kept_may : (b : Bool) (node : ℕ) (m : Message) → node < 5 → Contains (if b then mail node else []) m → MayBeHeld nodes (envelope_to node m)
   kept_may true node m lt there = may node m lt there
   kept_may false node m lt there = let below : there.0 < 0 = there.1 in absurd (omega arith)
 
   -- copies of mail that may be held may be held
-  pub held_copies : (n : ℕ) → n ≤ 5 → AreHeld nodes (with_copies letters fates mail n)
+  pub held_copies : (n : ℕ) → n ≤ 5 → AreHeld nodes (with_copies envelopes fates mail n)
   held_copies zero le = held
   held_copies (suc n) le =
-      held_with nodes (with_copies letters fates mail n) n (if keeps_copies (at fates n) then mail n else []) (held_copies n (omega arith))
+      held_with nodes (with_copies envelopes fates mail n) n (if keeps_copies (at fates n) then mail n else []) (held_copies n (omega arith))
       (λ m there. kept_may (keeps_copies (at fates n)) n m (omega arith) there)
 
   -- and a part of them
-  pub held_part : (node n : ℕ) → node < 5 → AreHeld nodes (with_letters (with_copies letters fates mail node) node (take n (mail node)))
+  pub held_part : (node n : ℕ) → node < 5 → AreHeld nodes (with_envelopes (with_copies envelopes fates mail node) node (take n (mail node)))
   held_part node n lt =
-      held_with_some nodes (with_copies letters fates mail node) node (mail node) (held_copies node (omega arith)) (λ m there. may node m lt there) n
+      held_with_some nodes (with_copies envelopes fates mail node) node (mail node) (held_copies node (omega arith)) (λ m there. may node m lt there) n
 
-  pub held_some : (later : List Letter) → IsPartOfCopies letters later fates mail → AreHeld nodes later
+  pub held_some : (later : List Envelope) → IsPartOfCopies envelopes later fates mail → AreHeld nodes later
   held_some later (node, n, lt, kept, is) = subst (AreHeld nodes) (sym is) (held_part node n lt)
 
-  pub held_all : (later : List Letter) → later ≡ with_copies letters fates mail 5 → AreHeld nodes later
+  pub held_all : (later : List Envelope) → later ≡ with_copies envelopes fates mail 5 → AreHeld nodes later
   held_all later is = subst (AreHeld nodes) (sym is) (held_copies 5 (omega arith))
 
 once_both : (a b : Bool) → (if a && b then 1 else 0) ≤ (if a then 1 else 0)

@@ -162,10 +162,6 @@ module _ {D : Type 0} where
       (λ (ms : List Message). IsGrownBy ms (kept (at old node)) (kept (at new node)) × (ms ≡ [] → at new node ≡ at old node))
       (is node lt) (grown node lt)
 
-  -- where nothing has changed
-  pub grows_not : (nodes : Five (Node D)) (mail : Mail) → AllGrow nodes nodes mail
-  grows_not nodes mail node lt = ((0, refl), λ none. refl)
-
 -- whose fate is asked is in
 asked_where_in : (endpoint peer : ℕ) (message : Message) (is_in own_too : Bool) → (peer ≡ endpoint → is_in ≡ false)
     → is_asked endpoint peer (one_if (is_in || (own_too && (peer == endpoint))) message) ≡ is_in
@@ -291,7 +287,7 @@ pub own_goes_on : {D C : Type 0} (faults : D → ℕ) (stops_in : D → Option �
     → ClusterGoesOn faults stops_in is_tame troubles is_silent begins (cluster_of old courier held) (cluster_of new courier held)
 own_goes_on faults stops_in is_tame troubles is_silent begins old new courier held on = record {
   nodes = on;
-  held = ([], sym (append-nil held.letters.items), λ letter there. absurd (not_there letter there));
+  held = ([], sym (append-nil held.envelopes.items), λ envelope there. absurd (not_there envelope there));
   troubles_stay = λ peer lt. not_fallen_same _;
   silent_stay = λ peer lt silent. silent;
 }

@@ -1,5 +1,5 @@
 -- How an attempt ends.
-use Rattle.std.specs.Prelude.{ℕ, ◌≡◌, ◌≢◌, ◌<◌, ◌≤◌, ◌+◌, ◌-◌, ◌^◌, ◌*◌, ◌/◌, ◌%◌, ◌==◌, ◌&&◌, ◌⊎◌, ◌↔◌, ⊤, Bool, true, false, not, if◌then◌else◌, IsTrue, List, Contains, count_by, length, Some}
+use Rattle.std.specs.Prelude.{ℕ, ◌≡◌, ◌≢◌, ◌<◌, ◌≤◌, ◌+◌, ◌-◌, ◌^◌, ◌*◌, ◌/◌, ◌%◌, ◌==◌, ◌&&◌, ◌⊎◌, ◌↔◌, Bool, true, false, not, if◌then◌else◌, IsTrue, List, Contains, count_by, length, Some}
 use Rattle.arc_bytes.specs.Counts.{HasRisen, next_count}
 use Rattle.arc_bytes.specs.Five.{at}
 use Rattle.arc_bytes.specs.declared.five.Five.{Five}
@@ -129,15 +129,9 @@ pub record StaysSilent {D C : Type 0} (is_silent : C → ℕ → Type 0) (old ne
 abbrev pub HasRisenOnce : ℕ → ℕ → Type 0
 HasRisenOnce before now = (now ≡ before) ⊎ (now ≡ next_count before)
 
--- No peer met trouble twice in an attempt that ended so. Where the endpoint's node went down or memory was wanting, nothing is
--- said of that.
-abbrev pub MetTroubleOnce : {C : Type 0} (troubles : C → ℕ → ℕ) → C → C → Attempt → Type 0
-MetTroubleOnce troubles old new (Placed slot) = (peer : ℕ) → peer < 5 → HasRisenOnce (troubles old peer) (troubles new peer)
-MetTroubleOnce troubles old new (Other slot) = (peer : ℕ) → peer < 5 → HasRisenOnce (troubles old peer) (troubles new peer)
-MetTroubleOnce troubles old new (Disturbed tally) = (peer : ℕ) → peer < 5 → HasRisenOnce (troubles old peer) (troubles new peer)
-MetTroubleOnce troubles old new (NodeDown node) = ⊤
-MetTroubleOnce troubles old new (ListFull length) = ⊤
-MetTroubleOnce troubles old new Memory = ⊤
+-- No peer met trouble twice.
+abbrev pub MetTroubleOnce : {C : Type 0} (troubles : C → ℕ → ℕ) → C → C → Type 0
+MetTroubleOnce troubles old new = (peer : ℕ) → peer < 5 → HasRisenOnce (troubles old peer) (troubles new peer)
 
 -- Whether a node is a peer of an attempt: an up node other than the endpoint's.
 abbrev pub is_peer : {D : Type 0} → Five (Node D) → ℕ → ℕ → Bool

@@ -48,7 +48,7 @@ pub record Ended {D C : Type 0} (faults : D → ℕ) (stops_in : D → Option �
   pub ends : EndsAttempt faults troubles start new endpoint c result
   pub silent : StaysSilent is_silent start new endpoint c result
   pub asks : AsksAtMost (asked start.courier) (asked new.courier) (most_asked start.nodes endpoint)
-  pub once : MetTroubleOnce troubles start.courier new.courier result
+  pub once : MetTroubleOnce troubles start.courier new.courier
 
 -- From wherever the attempt began that has come so far, this became of it.
 abbrev pub EndsFrom : {D C : Type 0} (faults : D → ℕ) (stops_in : D → Option ℕ) (is_tame : D → Type 0) (troubles : C → ℕ → ℕ)

@@ -10,9 +10,9 @@ use Rattle.arc_data.specs.declared.message.Answer.{Answer}
 use Rattle.arc_data.specs.declared.message.Message.{Message}
 use Rattle.arc_voting.specs.Lawful.{Mail}
 use Rattle.arc_cluster.specs.Exchange.{has_messages}
-use Rattle.arc_cluster.specs.Held.{with_letters}
+use Rattle.arc_cluster.specs.Held.{with_envelopes}
 use Rattle.arc_cluster.specs.Onward.{AsksExactly}
-use Rattle.arc_cluster.specs.declared.held.Letter.{Letter}
+use Rattle.arc_cluster.specs.declared.held.Envelope.{Envelope}
 
 -- The fate of a node was asked, and it is trouble. The endpoint's fate isn't asked, nor that of a node without mail.
 abbrev pub meets_trouble : Option Fate → Bool
@@ -82,13 +82,13 @@ pub record AreFates {C : Type 0} (troubles : C → ℕ → ℕ) (asked : C → O
   pub asks : AsksExactly (asked before) (asked after) (λ peer. is_asked endpoint peer (mail peer))
   pub silent_stay : (peer : ℕ) → is_silent before peer → is_silent after peer
 
--- The letters with copies of the mail of the nodes below this number behind them, of each where copies of it are held.
-abbrev pub with_copies : List Letter → Five (Option Fate) → Mail → ℕ → List Letter
-with_copies letters fates mail zero = letters
-with_copies letters fates mail (suc node) =
-    with_letters (with_copies letters fates mail node) node (if keeps_copies (at fates node) then mail node else [])
+-- The envelopes with copies of the mail of the nodes below this number behind them, of each where copies of it are held.
+abbrev pub with_copies : List Envelope → Five (Option Fate) → Mail → ℕ → List Envelope
+with_copies envelopes fates mail zero = envelopes
+with_copies envelopes fates mail (suc node) =
+    with_envelopes (with_copies envelopes fates mail node) node (if keeps_copies (at fates node) then mail node else [])
 
--- Letters with a part of such copies behind them.
-abbrev pub IsPartOfCopies : List Letter → List Letter → Five (Option Fate) → Mail → Type 0
-IsPartOfCopies letters later fates mail = (node n : ℕ) × (node < 5) × (keeps_copies (at fates node) ≡ true)
-    × (later ≡ with_letters (with_copies letters fates mail node) node (take n (mail node)))
+-- Envelopes with a part of such copies behind them.
+abbrev pub IsPartOfCopies : List Envelope → List Envelope → Five (Option Fate) → Mail → Type 0
+IsPartOfCopies envelopes later fates mail = (node n : ℕ) × (node < 5) × (keeps_copies (at fates node) ≡ true)
+    × (later ≡ with_envelopes (with_copies envelopes fates mail node) node (take n (mail node)))

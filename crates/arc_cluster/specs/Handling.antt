@@ -1,6 +1,7 @@
 -- What nodes make of their messages.
 use Rattle.std.specs.Prelude.{ℕ, ◌≡◌, ◌<◌, ◌⊎◌, true, false, Option, Some, None, List, [], ◌∷◌, ◌++◌, All, length, take}
 use Rattle.std.specs.List.{slice_get}
+use Rattle.std.specs.Borrow.{Bor}
 use Rattle.std.specs.Global.{Vec}
 use Rattle.arc_bytes.specs.Counts.{HasRisen}
 use Rattle.arc_bytes.specs.Five.{at}
@@ -20,6 +21,10 @@ use Rattle.arc_cluster.specs.Nodes.{IsChoice}
 -- The messages to each node.
 abbrev pub mail_of : Five (Vec Message) → Mail
 mail_of five node = (at five node).items
+
+-- The messages that each node is lent.
+abbrev pub lent_to : Five (Bor (List Message)) → Mail
+lent_to five node = (at five node).now
 
 -- No node has answered.
 abbrev pub none_of_five : Five (Option Answer)

@@ -9,7 +9,7 @@ use Rattle.arc_node.specs.declared.node.Node.{Node}
 use Rattle.arc_node.specs.Node.{disk_in, is_up, kept, limit_of}
 use Rattle.arc_voting.specs.Journals.{last_inc, since_opened}
 use Rattle.arc_cluster.specs.declared.cluster.Cluster.{Cluster}
-use Rattle.arc_cluster.specs.declared.held.Letter.{Letter}
+use Rattle.arc_cluster.specs.declared.held.Envelope.{Envelope}
 use Rattle.arc_cluster.specs.Cluster.{held_in}
 use Rattle.arc_cluster.specs.Nodes.{AllFollow, AreSame}
 use Rattle.arc_cluster.specs.Since.{AllSince}
@@ -38,13 +38,13 @@ abbrev pub HasNotFallen : ℕ → ℕ → Type 0
 HasNotFallen before now = min before (2 ^ 64 - 1) ≤ now
 
 -- A held message is for a node that is up.
-abbrev pub IsForUp : {D : Type 0} → Five (Node D) → Letter → Type 0
-IsForUp nodes letter = (letter.to < 5) × (is_up (at nodes letter.to) ≡ true)
+abbrev pub IsForUp : {D : Type 0} → Five (Node D) → Envelope → Type 0
+IsForUp nodes envelope = (envelope.to < 5) × (is_up (at nodes envelope.to) ≡ true)
 
 -- What is held is held still, with messages for nodes that are up behind it.
-abbrev pub HoldsMore : {D : Type 0} → Five (Node D) → List Letter → List Letter → Type 0
+abbrev pub HoldsMore : {D : Type 0} → Five (Node D) → List Envelope → List Envelope → Type 0
 HoldsMore nodes before after =
-    (more : List Letter) × (after ≡ before ++ more) × ((letter : Letter) → Contains more letter → IsForUp nodes letter)
+    (more : List Envelope) × (after ≡ before ++ more) × ((envelope : Envelope) → Contains more envelope → IsForUp nodes envelope)
 
 -- A cluster goes on: its nodes do, and what it held is held still, with messages for nodes that were up behind it. No count of
 -- troubles has fallen, and a courier that was silent to a peer is so still.

@@ -2,6 +2,7 @@
 use Rattle.std.specs.Prelude.{ℕ, ◌≡◌, ◌<◌, ⊤, true, List, Contains, Option}
 use Rattle.arc_bytes.specs.Five.{at}
 use Rattle.arc_bytes.specs.declared.five.Five.{Five}
+use Rattle.arc_data.specs.Entries.{closed_len}
 use Rattle.arc_data.specs.Valid.{IsInRange, IsValidCommand}
 use Rattle.arc_data.specs.declared.command.Command.{Command}
 use Rattle.arc_ids.specs.declared.command_id.CommandId.{CommandId}
@@ -44,15 +45,15 @@ MayBeAttemptedAgain {D} faults stops_in is_tame =
     GoOn faults stops_in is_tame (λ d. d ≡ attempted) old new → (attempted.id ≡ c.id → attempted ≡ c) →
     ¬ Contains (applied (kept (at new node))) c → MayBeAttempted new node c
 
--- Whether a command may be attempted again where an attempt for it ended so: unless it was placed, its node went down, or
--- memory was wanting.
-abbrev pub MayFollow : {D : Type 0} → Five (Node D) → ℕ → Command → Attempt → Type 0
-MayFollow nodes node c (Placed slot) = ⊤
-MayFollow nodes node c (Other slot) = MayBeAttempted nodes node c
-MayFollow nodes node c (Disturbed tally) = MayBeAttempted nodes node c
-MayFollow nodes node c (NodeDown down) = ⊤
-MayFollow nodes node c (ListFull length) = MayBeAttempted nodes node c
-MayFollow nodes node c Memory = ⊤
+-- Whether a command may be attempted again where an attempt for it ended so: unless it was placed, or its node went down. After
+-- want of memory it may be where the node's list is as long as it was before the attempt.
+abbrev pub MayFollow : {D : Type 0} → Five (Node D) → Five (Node D) → ℕ → Command → Attempt → Type 0
+MayFollow old new node c (Placed slot) = ⊤
+MayFollow old new node c (Other slot) = MayBeAttempted new node c
+MayFollow old new node c (Disturbed tally) = MayBeAttempted new node c
+MayFollow old new node c (NodeDown down) = ⊤
+MayFollow old new node c (ListFull length) = MayBeAttempted new node c
+MayFollow old new node c Memory = closed_len (kept (at new node)) ≡ closed_len (kept (at old node)) → MayBeAttempted new node c
 
 -- So it is behind each attempt.
 abbrev pub AttemptsMayFollow : {D C : Type 0} (faults : D → ℕ) (stops_in : D → Option ℕ) (is_tame : D → Type 0)
@@ -60,4 +61,4 @@ abbrev pub AttemptsMayFollow : {D C : Type 0} (faults : D → ℕ) (stops_in : D
 AttemptsMayFollow {D} {C} faults stops_in is_tame troubles is_silent =
     (old new : Cluster D C) (node : ℕ) (c : Command) (end : Attempt) → node < 5 → MayBeAttempted old.nodes node c →
     ClusterGoesOn faults stops_in is_tame troubles is_silent (λ d. d ≡ c) old new →
-    EndsAttempt faults troubles old new node c end → MayFollow new.nodes node c end
+    EndsAttempt faults troubles old new node c end → MayFollow old.nodes new.nodes node c end

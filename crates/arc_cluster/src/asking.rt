@@ -9,13 +9,13 @@ ghost use Rattle.arc_cluster.specs.Attempts.{GivesNone};
 ghost use Rattle.arc_cluster.specs.Cluster.{IsInOrder};
 ghost use Rattle.arc_cluster.specs.Onward.{AsksAtMost, ClusterGoesOn};
 ghost use Rattle.arc_cluster.specs.Phases.{AreLevel, IsKnown, IsProposerOf, IsShown, KnowsLengths};
-ghost use Rattle.arc_cluster.specs.Work.{IsUnderWay, PeersGoOn};
+ghost use Rattle.arc_cluster.specs.Work.{IsUnderWay, MeetOnce, PeersGoOn};
 
 use crate::Cluster;
 use crate::handling::no_answers;
 use crate::noting::{note_lengths, note_statuses};
 use crate::telling::tell_peers;
-use crate::work::{Work, no_mail};
+use crate::work::{Work, lend_mail, no_mail};
 use arc_bytes::Memory;
 use arc_courier::Courier;
 use arc_data::{Command, Message};
@@ -49,6 +49,7 @@ impl<D: Disk, C: Courier + Drop> Cluster<D, C> {
         ensures proposer { IsProposerOf proposer.new work.old proposer.old.own }
         ensures none { HasNoneCounted proposer.new }
         ensures silent { OnOk result ((peer : ℕ) → peer < 5 → C.is_silent self.old.courier peer → at work.new.peers peer ≡ false) }
+        ensures meets { MeetOnce C.troubles self.old.courier self.new.courier work.old }
         ensures asked { AsksAtMost (C.asked self.old.courier) (C.asked self.new.courier) (λ peer. if at work.old.peers peer then 1 else 0) }
     {
         let message = Message::Status { slot: work.slot };
@@ -67,7 +68,7 @@ impl<D: Disk, C: Courier + Drop> Cluster<D, C> {
     }
 
     /// Phase 2: tells the peers that are in what they lack below the slot, at most 16 commands in an exchange.
-    pub(crate) fn teach(&mut self, alloc: Global, work: &mut Work) -> Result<(), Memory>
+    pub(crate) fn catch_up_peers(&mut self, alloc: Global, work: &mut Work) -> Result<(), Memory>
         requires in_order { IsInOrder D.tells D.content D.may_leave self.old }
         requires under_way { IsUnderWay self.old.nodes work.old }
         requires lengths { KnowsLengths self.old.nodes work.old }
@@ -80,17 +81,18 @@ impl<D: Disk, C: Courier + Drop> Cluster<D, C> {
         ensures promises { (node : ℕ) → node < 5 → promise (kept (at self.new.nodes node)) ≡ promise (kept (at self.old.nodes node)) }
         ensures counts { (node : ℕ) → node < 5 → GivesNone (kept (at self.old.nodes node)) (kept (at self.new.nodes node)) }
         ensures others { (node : ℕ) → node < 5 → at work.old.peers node ≡ false → at self.new.nodes node ≡ at self.old.nodes node }
+        ensures meets { MeetOnce C.troubles self.old.courier self.new.courier work.old }
         ensures asked { AsksAtMost (C.asked self.old.courier) (C.asked self.new.courier) (λ peer.
             if at work.old.peers peer then (work.old.slot - at work.old.lengths peer + 15) / 16 else 0) }
     {
         while work.lacks() {
-            self.teach_once(alloc, work)?;
+            self.catch_up_once(alloc, work)?;
         }
         Ok(())
     }
 
     /// One exchange with each peer that lacks something.
-    fn teach_once(&mut self, alloc: Global, work: &mut Work) -> Result<(), Memory>
+    fn catch_up_once(&mut self, alloc: Global, work: &mut Work) -> Result<(), Memory>
         requires in_order { IsInOrder D.tells D.content D.may_leave self.old }
         requires under_way { IsUnderWay self.old.nodes work.old }
         requires lengths { KnowsLengths self.old.nodes work.old }
@@ -102,6 +104,7 @@ impl<D: Disk, C: Courier + Drop> Cluster<D, C> {
         ensures promises { (node : ℕ) → node < 5 → promise (kept (at self.new.nodes node)) ≡ promise (kept (at self.old.nodes node)) }
         ensures counts { (node : ℕ) → node < 5 → GivesNone (kept (at self.old.nodes node)) (kept (at self.new.nodes node)) }
         ensures others { (node : ℕ) → node < 5 → at work.old.peers node ≡ false → at self.new.nodes node ≡ at self.old.nodes node }
+        ensures meets { MeetOnce C.troubles self.old.courier self.new.courier work.old }
         ensures asked { AsksAtMost (C.asked self.old.courier) (C.asked self.new.courier) (λ peer. if is_behind work.old peer then 1 else 0) }
         ensures fewer { OnOk result (HasFewerLeft work.old work.new) }
     {
@@ -114,7 +117,7 @@ impl<D: Disk, C: Courier + Drop> Cluster<D, C> {
             }
         }
         let mut answers = no_answers();
-        let told = self.exchange(alloc, work, &mut mail, &mut answers);
+        let told = self.exchange(alloc, work, &lend_mail(&mail), &mut answers);
         drop(mail);
         match told {
             Ok(()) => note_lengths(work, &answers),

@@ -38,7 +38,7 @@ impl<D: Disk, C: Courier + Drop> Cluster<D, C> {
         ensures full { IsFullExactly self.old node result }
         ensures silent { StaysSilent C.is_silent self.old self.new node c.now result }
         ensures asked { AsksAtMost (C.asked self.old.courier) (C.asked self.new.courier) (most_asked self.old.nodes node) }
-        ensures once { MetTroubleOnce C.troubles self.old.courier self.new.courier result }
+        ensures once { MetTroubleOnce C.troubles self.old.courier self.new.courier }
         ensures bounds { GivesAtMost 1 2 self.old.nodes self.new.nodes }
     {
         let own = self.nodes.get(node);
@@ -188,7 +188,7 @@ impl<D: Disk, C: Courier + Drop> Cluster<D, C> {
         ensures bounds { GivesAtMost 1 2 self.old.nodes self.new.nodes }
     {
         let endpoint = work.endpoint;
-        match self.teach(alloc, work) {
+        match self.catch_up_peers(alloc, work) {
             Ok(()) => self.ballot(alloc, work, proposer, c),
             Err(Memory) => self.wanting(endpoint),
         }
@@ -326,7 +326,7 @@ impl<D: Disk, C: Courier + Drop> Cluster<D, C> {
         ensures bounds { GivesAtMost 0 0 self.old.nodes self.new.nodes }
     {
         let slot = work.slot;
-        let _ = self.spread(alloc, work, command);
+        let _ = self.tell_chosen(alloc, work, command);
         placed(slot, command, c)
     }
 

@@ -65,6 +65,7 @@ impl<D: Disk, C: Courier + Drop> Cluster<D, C> {
         ensures shown { proposer.new.shown ≡ proposer.old.shown }
         ensures others { (node : ℕ) → node < 5 → node ≢ work.old.endpoint → at work.old.peers node ≡ false →
             at self.new.nodes node ≡ at self.old.nodes node }
+        ensures meets { MeetOnce C.troubles self.old.courier self.new.courier work.old }
         ensures asked { AsksAtMost (C.asked self.old.courier) (C.asked self.new.courier) (λ peer. if at work.old.peers peer then 1 else 0) }
         ensures bounds { GivesAtMost 1 0 self.old.nodes self.new.nodes }
     {
@@ -99,6 +100,7 @@ impl<D: Disk, C: Courier + Drop> Cluster<D, C> {
         ensures shown { proposer.new.shown ≡ proposer.old.shown }
         ensures others { (node : ℕ) → node < 5 → node ≢ work.old.endpoint → at work.old.peers node ≡ false →
             at self.new.nodes node ≡ at self.old.nodes node }
+        ensures meets { MeetOnce C.troubles self.old.courier self.new.courier work.old }
         ensures asked { AsksAtMost (C.asked self.old.courier) (C.asked self.new.courier) (λ peer. if at work.old.peers peer then 1 else 0) }
         ensures bounds { GivesAtMost 1 0 self.old.nodes self.new.nodes }
     {
@@ -127,6 +129,7 @@ impl<D: Disk, C: Courier + Drop> Cluster<D, C> {
         ensures grown { AllGrow self.old.nodes self.new.nodes (sent work.old true (Prepare work.old.slot ballot)) }
         ensures bounds { GivesAtMost 1 0 self.old.nodes self.new.nodes }
         ensures same { IsSameWork work.old work.new }
+        ensures meets { MeetOnce C.troubles self.old.courier self.new.courier work.old }
         ensures asked { AsksAtMost (C.asked self.old.courier) (C.asked self.new.courier) (λ peer. if at work.old.peers peer then 1 else 0) }
     {
         let message = Message::Prepare {
@@ -163,6 +166,7 @@ impl<D: Disk, C: Courier + Drop> Cluster<D, C> {
         ensures fallen { result ≡ Ok Votes.Fallen → is_up (at self.new.nodes work.old.endpoint) ≡ false }
         ensures others { (node : ℕ) → node < 5 → node ≢ work.old.endpoint → at work.old.peers node ≡ false →
             at self.new.nodes node ≡ at self.old.nodes node }
+        ensures meets { MeetOnce C.troubles self.old.courier self.new.courier work.old }
         ensures asked { AsksAtMost (C.asked self.old.courier) (C.asked self.new.courier) (λ peer. if at work.old.peers peer then 1 else 0) }
         ensures bounds { GivesAtMost 0 2 self.old.nodes self.new.nodes }
     {
@@ -204,6 +208,7 @@ impl<D: Disk, C: Courier + Drop> Cluster<D, C> {
         ensures fallen { result ≡ Ok Votes.Fallen → is_up (at self.new.nodes work.old.endpoint) ≡ false }
         ensures others { (node : ℕ) → node < 5 → node ≢ work.old.endpoint → at work.old.peers node ≡ false →
             at self.new.nodes node ≡ at self.old.nodes node }
+        ensures meets { MeetOnce C.troubles self.old.courier self.new.courier work.old }
         ensures asked { AsksAtMost (C.asked self.old.courier) (C.asked self.new.courier) (λ peer. if at work.old.peers peer then 1 else 0) }
         ensures bounds { GivesAtMost 0 2 self.old.nodes self.new.nodes }
     {
@@ -275,6 +280,7 @@ impl<D: Disk, C: Courier + Drop> Cluster<D, C> {
         ensures not_fallen { result ≢ Ok Votes.Fallen }
         ensures others { (node : ℕ) → node < 5 → node ≢ work.old.endpoint → at work.old.peers node ≡ false →
             at self.new.nodes node ≡ at self.old.nodes node }
+        ensures meets { MeetOnce C.troubles self.old.courier self.new.courier work.old }
         ensures asked { AsksAtMost (C.asked self.old.courier) (C.asked self.new.courier) (λ peer. if at work.old.peers peer then 1 else 0) }
         ensures bounds { GivesAtMost 0 1 self.old.nodes self.new.nodes }
     {
@@ -327,7 +333,7 @@ impl<D: Disk, C: Courier + Drop> Cluster<D, C> {
     }
 
     /// Phase 7: tells the peers that are in what is chosen at the slot. Their answers change nothing.
-    pub(crate) fn spread(
+    pub(crate) fn tell_chosen(
         &mut self,
         alloc: Global,
         work: &mut Work,

@@ -17,6 +17,7 @@ use crate::disks::disks_of;
 use crate::handling::{handle_each, no_answers};
 use crate::held::Held;
 use crate::opening::{OpenEnd, create_all};
+use crate::work::lend_mail;
 use arc_bytes::{Five, Memory};
 use arc_courier::Courier;
 use arc_data::{Answer, Message};
@@ -87,7 +88,7 @@ impl<D: Disk, C: Courier + Drop> Cluster<D, C> {
         ensures courier { self.new.courier ≡ self.old.courier }
     {
         let mut answers = no_answers();
-        match handle_each(alloc, &mut self.nodes, mail, &mut answers) {
+        match handle_each(alloc, &mut self.nodes, &lend_mail(mail), &mut answers) {
             Ok(()) => Ok(answers),
             Err(Memory) => {
                 drop(answers);

@@ -11,7 +11,7 @@ ghost use Rattle.arc_cluster.specs.Nodes.{AreInOrder};
 ghost use Rattle.arc_cluster.specs.Onward.{ClusterGoesOn, GoOn};
 
 use crate::Cluster;
-use crate::held::Letter;
+use crate::held::Envelope;
 use arc_bytes::Five;
 use arc_courier::Courier;
 use arc_data::{Answer, Message};
@@ -45,26 +45,30 @@ impl<D: Disk, C: Courier + Drop> Cluster<D, C> {
         ensures courier { self.new.courier ≡ self.old.courier }
     {
         let held = self.held.len();
-        let Some(letter) = self.held.get(k) else {
+        let Some(envelope) = self.held.get(k) else {
             return Delivered::NoSuch { held };
         };
-        let end = handle_letter(alloc, &mut self.nodes, letter);
-        delivery_end(letter.to, end)
+        let end = handle_envelope(alloc, &mut self.nodes, envelope);
+        delivery_end(envelope.to, end)
     }
 }
 
-/// Lets the receiver of a letter handle its message.
-fn handle_letter<D: Disk>(alloc: Global, nodes: &mut Five<Node<D>>, letter: &Letter) -> HandleEnd
+/// Lets the receiver of an envelope handle its message.
+fn handle_envelope<D: Disk>(
+    alloc: Global,
+    nodes: &mut Five<Node<D>>,
+    envelope: &Envelope,
+) -> HandleEnd
     requires in_order { AreInOrder D.tells D.content D.may_leave nodes.old }
-    requires may { MayBeHeld nodes.old letter.now }
+    requires may { MayBeHeld nodes.old envelope.now }
     ensures in_order { AreInOrder D.tells D.content D.may_leave nodes.new }
-    ensures ends { EndsHandling D.faults (at nodes.old letter.now.to) (at nodes.new letter.now.to) letter.now.message result }
-    ensures memory { EndsForMemory (at nodes.old letter.now.to) letter.now.message result }
-    ensures others { (other : ℕ) → other < 5 → other ≢ letter.now.to → at nodes.new other ≡ at nodes.old other }
+    ensures ends { EndsHandling D.faults (at nodes.old envelope.now.to) (at nodes.new envelope.now.to) envelope.now.message result }
+    ensures memory { EndsForMemory (at nodes.old envelope.now.to) envelope.now.message result }
+    ensures others { (other : ℕ) → other < 5 → other ≢ envelope.now.to → at nodes.new other ≡ at nodes.old other }
     ensures go_on { GoOn D.faults D.stops_in D.is_tame (λ c. ⊥) nodes.old nodes.new }
     ensures any_moment { D.tells → LeaveSound D.moment D.left_since nodes.old nodes.new }
 {
-    handle_alone(alloc, nodes.get_mut(letter.to), &letter.message)
+    handle_alone(alloc, nodes.get_mut(envelope.to), &envelope.message)
 }
 
 /// Lets a node handle one message.

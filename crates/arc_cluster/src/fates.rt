@@ -2,7 +2,7 @@
 ghost use Rattle.std.specs.Prelude.{ℕ, ◌≡◌, ◌<◌, OnOk, OnErr};
 ghost use Rattle.arc_bytes.specs.Five.{at};
 ghost use Rattle.arc_cluster.specs.Fates.{AreFates, IsAskedOf, IsPartOfCopies, coming, is_asked, keeps_copies, meets_trouble, reaching, stays_in, with_copies};
-ghost use Rattle.arc_cluster.specs.Handling.{mail_of};
+ghost use Rattle.arc_cluster.specs.Handling.{lent_to};
 ghost use Rattle.arc_cluster.specs.Work.{IsSameWork};
 
 use crate::held::Held;
@@ -16,16 +16,16 @@ use std::alloc::Global;
 pub(crate) fn ask_fates<C: Courier>(
     courier: &mut C,
     endpoint: u8,
-    mail: &Five<Vec<Message>>,
+    mail: &Five<&[Message]>,
 ) -> Five<Option<Fate>>
-    ensures { AreFates C.troubles C.asked C.is_silent courier.old courier.new endpoint (mail_of mail.now) result }
+    ensures { AreFates C.troubles C.asked C.is_silent courier.old courier.new endpoint (lent_to mail.now) result }
 {
     Five {
-        d0: ask_fate(courier, endpoint, 0, &mail.d0),
-        d1: ask_fate(courier, endpoint, 1, &mail.d1),
-        d2: ask_fate(courier, endpoint, 2, &mail.d2),
-        d3: ask_fate(courier, endpoint, 3, &mail.d3),
-        d4: ask_fate(courier, endpoint, 4, &mail.d4),
+        d0: ask_fate(courier, endpoint, 0, mail.d0),
+        d1: ask_fate(courier, endpoint, 1, mail.d1),
+        d2: ask_fate(courier, endpoint, 2, mail.d2),
+        d3: ask_fate(courier, endpoint, 3, mail.d3),
+        d4: ask_fate(courier, endpoint, 4, mail.d4),
     }
 }
 
@@ -45,18 +45,26 @@ pub(crate) fn keep_copies(
     alloc: Global,
     held: &mut Held,
     fates: &Five<Option<Fate>>,
-    mail: &Five<Vec<Message>>,
+    mail: &Five<&[Message]>,
 ) -> Result<(), Memory>
-    ensures held { OnOk result (held.new.letters.items
-        ≡ with_copies held.old.letters.items fates.now (mail_of mail.now) 5) }
-    ensures memory { OnErr result (IsPartOfCopies held.old.letters.items held.new.letters.items fates.now (mail_of mail.now)) }
+    ensures held { OnOk result (held.new.envelopes.items
+        ≡ with_copies held.old.envelopes.items fates.now (lent_to mail.now) 5) }
+    ensures memory { OnErr result (IsPartOfCopies held.old.envelopes.items held.new.envelopes.items fates.now (lent_to mail.now)) }
 {
     for peer in 0..5u8 {
         if are_kept(*fates.get(peer)) {
-            held.hold_copies(alloc, peer, mail.get(peer))?;
+            held.hold_copies(alloc, peer, mail_to(mail, peer))?;
         }
     }
     Ok(())
+}
+
+/// The messages to this node.
+fn mail_to<'m>(mail: &Five<&'m [Message]>, node: u8) -> &'m [Message]
+    requires { node < 5 }
+    ensures { result.now ≡ lent_to mail.now node }
+{
+    *mail.get(node)
 }
 
 /// Whether copies of the messages are held.
@@ -66,23 +74,29 @@ fn are_kept(fate: Option<Fate>) -> bool
     matches!(fate, Some(Fate::Later | Fate::Both))
 }
 
-/// Takes out of the mail what comes later.
-pub(crate) fn withdraw_all(fates: &Five<Option<Fate>>, mail: &mut Five<Vec<Message>>)
-    ensures { (node : ℕ) → node < 5 → mail_of mail.new node ≡ reaching (at fates.now node) (mail_of mail.old node) }
+/// The mail without what comes later.
+pub(crate) fn withdraw_all<'m>(
+    fates: &Five<Option<Fate>>,
+    mail: &Five<&'m [Message]>,
+) -> Five<&'m [Message]>
+    ensures { (node : ℕ) → node < 5 → lent_to result node ≡ reaching (at fates.now node) (lent_to mail.now node) }
 {
-    withdraw(fates.d0, &mut mail.d0);
-    withdraw(fates.d1, &mut mail.d1);
-    withdraw(fates.d2, &mut mail.d2);
-    withdraw(fates.d3, &mut mail.d3);
-    withdraw(fates.d4, &mut mail.d4);
+    Five {
+        d0: withdraw(fates.d0, mail.d0),
+        d1: withdraw(fates.d1, mail.d1),
+        d2: withdraw(fates.d2, mail.d2),
+        d3: withdraw(fates.d3, mail.d3),
+        d4: withdraw(fates.d4, mail.d4),
+    }
 }
 
-/// Takes out what comes later.
-fn withdraw(fate: Option<Fate>, mail: &mut Vec<Message>)
-    ensures { mail.new.items ≡ reaching fate mail.old.items }
+/// The messages, or none where they come later.
+fn withdraw(fate: Option<Fate>, mail: &[Message]) -> &[Message]
+    ensures { result.now ≡ reaching fate mail.now }
 {
-    if let Some(Fate::Later) = fate {
-        mail.clear();
+    match fate {
+        Some(Fate::Later) => &[],
+        _ => mail,
     }
 }
 

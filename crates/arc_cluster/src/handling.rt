@@ -1,7 +1,7 @@
 //! Nodes that handle their messages.
 ghost use Rattle.std.specs.Prelude.{◌≡◌, None, OnOk};
 ghost use Rattle.arc_node.specs.Node.{HasVotesInPlace, IsInOrder, IsSameNode, disk_in};
-ghost use Rattle.arc_cluster.specs.Handling.{AllAnswer, AllHandle, AllMayHandle, AnswersAs, HandlesAll, MayBeHandled, MayHandle, mail_of, none_of_five};
+ghost use Rattle.arc_cluster.specs.Handling.{AllAnswer, AllHandle, AllMayHandle, AnswersAs, HandlesAll, MayBeHandled, MayHandle, lent_to, none_of_five};
 ghost use Rattle.arc_cluster.specs.Moments.{AllHandled, AllLeaveFronts, LeaveSound, LeavesFronts};
 ghost use Rattle.arc_cluster.specs.Since.{AllSince, Since};
 ghost use Rattle.arc_cluster.specs.Nodes.{AreInOrder, AreSame};
@@ -63,17 +63,17 @@ pub(crate) fn handle_all<D: Disk>(
 pub(crate) fn handle_each<D: Disk>(
     alloc: Global,
     nodes: &mut Five<Node<D>>,
-    mail: &Five<Vec<Message>>,
+    mail: &Five<&[Message]>,
     answers: &mut Five<Option<Answer>>,
 ) -> Result<(), Memory>
     requires in_order { AreInOrder D.tells D.content D.may_leave nodes.old }
-    requires mail { MayBeHandled nodes.old (mail_of mail.now) }
+    requires mail { MayBeHandled nodes.old (lent_to mail.now) }
     requires none { answers.old ≡ none_of_five }
     ensures in_order { AreInOrder D.tells D.content D.may_leave nodes.new }
-    ensures handle { AllHandle D.faults nodes.old nodes.new (mail_of mail.now) }
-    ensures answer { OnOk result (AllAnswer nodes.old nodes.new (mail_of mail.now) answers.new) }
+    ensures handle { AllHandle D.faults nodes.old nodes.new (lent_to mail.now) }
+    ensures answer { OnOk result (AllAnswer nodes.old nodes.new (lent_to mail.now) answers.new) }
     ensures any_moment { D.tells → LeaveSound D.moment D.left_since nodes.old nodes.new }
-    ensures fronts { D.tells → AllLeaveFronts D.moment D.left_since nodes.old nodes.new (mail_of mail.now) }
+    ensures fronts { D.tells → AllLeaveFronts D.moment D.left_since nodes.old nodes.new (lent_to mail.now) }
     ensures since { AllSince D.faults D.stops_in D.is_tame nodes.old nodes.new }
     ensures same { AreSame nodes.old nodes.new }
 {
@@ -84,18 +84,18 @@ pub(crate) fn handle_each<D: Disk>(
 fn handle_in_turn<D: Disk>(
     alloc: Global,
     nodes: &mut Five<Node<D>>,
-    mail: &Five<Vec<Message>>,
+    mail: &Five<&[Message]>,
     answers: &mut Five<Option<Answer>>,
 ) -> Result<(), Memory>
-    requires may { AllMayHandle D.tells D.content D.may_leave nodes.old (mail_of mail.now) }
+    requires may { AllMayHandle D.tells D.content D.may_leave nodes.old (lent_to mail.now) }
     requires none { answers.old ≡ none_of_five }
     ensures handled { AllHandled D.tells D.content D.may_leave D.faults D.moment D.stops_in D.is_tame
-        D.left_since nodes.old nodes.new (mail_of mail.now) }
-    ensures answer { OnOk result (AllAnswer nodes.old nodes.new (mail_of mail.now) answers.new) }
+        D.left_since nodes.old nodes.new (lent_to mail.now) }
+    ensures answer { OnOk result (AllAnswer nodes.old nodes.new (lent_to mail.now) answers.new) }
 {
-    handle_all(alloc, &mut nodes.d0, &mail.d0, &mut answers.d0)?;
-    handle_all(alloc, &mut nodes.d1, &mail.d1, &mut answers.d1)?;
-    handle_all(alloc, &mut nodes.d2, &mail.d2, &mut answers.d2)?;
-    handle_all(alloc, &mut nodes.d3, &mail.d3, &mut answers.d3)?;
-    handle_all(alloc, &mut nodes.d4, &mail.d4, &mut answers.d4)
+    handle_all(alloc, &mut nodes.d0, mail.d0, &mut answers.d0)?;
+    handle_all(alloc, &mut nodes.d1, mail.d1, &mut answers.d1)?;
+    handle_all(alloc, &mut nodes.d2, mail.d2, &mut answers.d2)?;
+    handle_all(alloc, &mut nodes.d3, mail.d3, &mut answers.d3)?;
+    handle_all(alloc, &mut nodes.d4, mail.d4, &mut answers.d4)
 }

@@ -2,7 +2,7 @@
 ghost use Rattle.std.specs.Prelude.{◌≡◌, ℕ, ◌≤◌, [], length, take, OnOk, OnErr};
 ghost use Rattle.std.specs.List.{slice_get};
 ghost use Rattle.std.specs.Option.{option_copied};
-ghost use Rattle.arc_cluster.specs.Held.{with_letter, with_letters};
+ghost use Rattle.arc_cluster.specs.Held.{with_envelope, with_envelopes};
 
 use arc_bytes::Memory;
 use arc_data::Message;
@@ -10,7 +10,7 @@ use std::alloc::Global;
 
 /// A message, and the node that it is for.
 #[derive(Drop)]
-pub struct Letter {
+pub struct Envelope {
     pub to: u8,
     pub message: Message,
 }
@@ -21,30 +21,30 @@ const MAX_HELD: usize = 4096;
 /// Messages that can be delivered later, again and again, in the order in which they were held.
 #[derive(Drop)]
 pub(crate) struct Held {
-    letters: Vec<Letter>,
+    envelopes: Vec<Envelope>,
 }
 
 impl Held {
     /// No messages.
     pub(crate) fn none(alloc: Global) -> Held
-        ensures { result.letters.items ≡ [] }
+        ensures { result.envelopes.items ≡ [] }
     {
         Held {
-            letters: Vec::new(alloc),
+            envelopes: Vec::new(alloc),
         }
     }
 
     /// Holds a message behind the others. Where there are 4,096, it is lost.
     pub(crate) fn hold(&mut self, to: u8, message: Message) -> Result<(), Memory>
-        ensures held { OnOk result (self.new.letters.items
-            ≡ with_letter self.old.letters.items (record { to = to; message = message })) }
-        ensures memory { OnErr result (self.new.letters.items ≡ self.old.letters.items) }
+        ensures held { OnOk result (self.new.envelopes.items
+            ≡ with_envelope self.old.envelopes.items (record { to = to; message = message })) }
+        ensures memory { OnErr result (self.new.envelopes.items ≡ self.old.envelopes.items) }
     {
-        if self.letters.len() >= MAX_HELD {
+        if self.envelopes.len() >= MAX_HELD {
             drop(message);
             return Ok(());
         }
-        match self.letters.push(Letter { to, message }) {
+        match self.envelopes.push(Envelope { to, message }) {
             Ok(()) => Ok(()),
             Err(lost) => {
                 drop(lost);
@@ -60,10 +60,10 @@ impl Held {
         to: u8,
         messages: &[Message],
     ) -> Result<(), Memory>
-        ensures held { OnOk result (self.new.letters.items
-            ≡ with_letters self.old.letters.items to messages.now) }
-        ensures memory { OnErr result ((n : ℕ) × (self.new.letters.items
-            ≡ with_letters self.old.letters.items to (take n messages.now))) }
+        ensures held { OnOk result (self.new.envelopes.items
+            ≡ with_envelopes self.old.envelopes.items to messages.now) }
+        ensures memory { OnErr result ((n : ℕ) × (self.new.envelopes.items
+            ≡ with_envelopes self.old.envelopes.items to (take n messages.now))) }
     {
         for message in messages {
             let copy = message.copy(alloc)?;
@@ -74,16 +74,16 @@ impl Held {
 
     /// How many there are.
     pub(crate) fn len(&self) -> u32
-        requires { length self.now.letters.items ≤ 4096 }
-        ensures { result ≡ length self.now.letters.items }
+        requires { length self.now.envelopes.items ≤ 4096 }
+        ensures { result ≡ length self.now.envelopes.items }
     {
-        self.letters.len() as u32
+        self.envelopes.len() as u32
     }
 
     /// The one with this number, from 0 on.
-    pub(crate) fn get(&self, number: u32) -> Option<&Letter>
-        ensures { option_copied result ≡ slice_get self.now.letters.items number }
+    pub(crate) fn get(&self, number: u32) -> Option<&Envelope>
+        ensures { option_copied result ≡ slice_get self.now.envelopes.items number }
     {
-        self.letters.get(number as usize)
+        self.envelopes.get(number as usize)
     }
 }

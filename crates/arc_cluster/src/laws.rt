@@ -18,7 +18,7 @@ pub fn commands_may_be_attempted_again<D: Disk>()
 {}
 
 /// A command may be attempted again behind an attempt that was disturbed, or that closed the slot with another command, or
-/// found the list full.
+/// found the list full; and behind one for which there was no memory left, where the node's list is as long as it was.
 pub fn attempts_may_follow<D: Disk, C: Courier>()
     ensures { AttemptsMayFollow D.faults D.stops_in D.is_tame C.troubles C.is_silent }
 {}

@@ -77,7 +77,7 @@ mod work;
 pub use attempt::{Attempt, Tally};
 pub use cluster::Cluster;
 pub use delivering::Delivered;
-pub use held::Letter;
+pub use held::Envelope;
 pub use laws::{
     attempts_may_follow, commands_may_be_attempted_again, new_commands_may_be_attempted,
 };

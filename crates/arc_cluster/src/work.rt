@@ -1,14 +1,16 @@
 //! What an attempt works with.
 ghost use Rattle.std.specs.Prelude.{ℕ, ◌≡◌, ◌<◌, ◌==◌, ◌||◌, ◌↔◌, true, [], ◌∷◌, ◌++◌, OnOk, if◌then◌else◌};
 ghost use Rattle.arc_bytes.specs.Five.{at};
-ghost use Rattle.arc_cluster.specs.Asking.{HasNoMail, IsMail, is_behind};
+ghost use Rattle.arc_cluster.specs.Asking.{HasNoMail, is_behind};
 ghost use Rattle.arc_cluster.specs.Attempts.{has_digit};
+ghost use Rattle.arc_cluster.specs.Handling.{lent_to, mail_of};
 ghost use Rattle.arc_cluster.specs.Work.{TakesPart, is_for};
 
 use crate::Tally;
 use arc_bytes::{Five, Memory};
 use arc_data::Message;
 use std::alloc::Global;
+use std::slice;
 
 /// The endpoint and the slot of an attempt, and its peers.
 #[derive(Drop)]
@@ -126,36 +128,38 @@ pub(crate) fn put(mail: &mut Vec<Message>, message: Message) -> Result<(), Memor
     }
 }
 
-/// Puts a copy of the message into the mail of each node to which it goes.
-pub(crate) fn address_all(
-    alloc: Global,
-    to: &Five<bool>,
-    message: &Message,
-    mail: &mut Five<Vec<Message>>,
-) -> Result<(), Memory>
-    requires empty { HasNoMail mail.old }
-    ensures { OnOk result (IsMail mail.new (λ node. if at to.now node then message.now ∷ [] else [])) }
+/// Lends each node its mail.
+pub(crate) fn lend_mail(mail: &Five<Vec<Message>>) -> Five<&[Message]>
+    ensures { lent_to result ≡ mail_of mail.now }
 {
-    address(alloc, to.d0, message, &mut mail.d0)?;
-    address(alloc, to.d1, message, &mut mail.d1)?;
-    address(alloc, to.d2, message, &mut mail.d2)?;
-    address(alloc, to.d3, message, &mut mail.d3)?;
-    address(alloc, to.d4, message, &mut mail.d4)
+    Five {
+        d0: &mail.d0,
+        d1: &mail.d1,
+        d2: &mail.d2,
+        d3: &mail.d3,
+        d4: &mail.d4,
+    }
 }
 
-/// Puts a copy of the message into a node's mail, where it goes to that node.
-fn address(
-    alloc: Global,
-    is_for: bool,
-    message: &Message,
-    mail: &mut Vec<Message>,
-) -> Result<(), Memory>
-    requires empty { mail.old.items ≡ [] }
-    ensures { OnOk result (mail.new.items ≡ (if is_for then message.now ∷ [] else [])) }
+/// Lends the message to each node to which it goes.
+pub(crate) fn lend_message<'m>(to: &Five<bool>, message: &'m Message) -> Five<&'m [Message]>
+    ensures { (node : ℕ) → node < 5 → lent_to result node ≡ (if at to.now node then message.now ∷ [] else []) }
+{
+    Five {
+        d0: lend(to.d0, message),
+        d1: lend(to.d1, message),
+        d2: lend(to.d2, message),
+        d3: lend(to.d3, message),
+        d4: lend(to.d4, message),
+    }
+}
+
+/// Lends the message to a node, where it goes to that node.
+fn lend(is_for: bool, message: &Message) -> &[Message]
+    ensures { result.now ≡ (if is_for then message.now ∷ [] else []) }
 {
     if !is_for {
-        return Ok(());
+        return &[];
     }
-    let copy = message.copy(alloc)?;
-    put(mail, copy)
+    slice::from_ref(message)
 }

@@ -1,4 +1,4 @@
-use Rattle.std.proofs.Common.{◌≡◌, ◌≤◌, ◌^◌, ℕ, sym, ◌∙◌, ap, subst}
+use Rattle.std.proofs.Common.{◌≡◌, ◌≤◌, ◌^◌, ℕ, inl, refl, sym, ◌∙◌, ap, subst}
 use Rattle.arc_data.specs.Entries.{closed_len, promise}
 use Rattle.arc_node.specs.Node.{kept, slots_in}
 use Rattle.arc_cluster.proofs.Onward.{cluster_same}
@@ -53,3 +53,12 @@ returns-then-not-is_up-clause-bounds g c = gives_same 1 2 c.args.self.now.nodes
 
 pub returns-in_default-clause-bounds : goal.returns-in_default-clause-bounds
 returns-in_default-clause-bounds g c = gives_same 1 2 c.args.self.now.nodes
+
+pub returns-then-slot-max_slots-clause-once : goal.returns-then-slot-max_slots-clause-once
+returns-then-slot-max_slots-clause-once g c = λ peer lt. inl refl
+
+pub returns-then-not-is_up-clause-once : goal.returns-then-not-is_up-clause-once
+returns-then-not-is_up-clause-once g c = λ peer lt. inl refl
+
+pub returns-in_default-clause-once : goal.returns-in_default-clause-once
+returns-in_default-clause-once g c = λ peer lt. inl refl

@@ -138,7 +138,7 @@ returns-in-Err-clause-ended g c =
     let after = c.ask.new.work in
     let p = c.args.proposer.now in
     let q = c.ask.new.proposer in
-    ended_wanting disk.faults disk.stops_in disk.is_tame courier.troubles courier.is_silent courier.asked old mid before.endpoint own (passes_first disk.faults disk.stops_in disk.is_tame courier.troubles courier.is_silent courier.asked old mid before after own c.requires.under_way c.requires.peers c.ask.ensures.go_on c.ask.ensures.lists c.ask.ensures.asked) c.wanting.result c.wanting.ensures
+    ended_wanting disk.faults disk.stops_in disk.is_tame courier.troubles courier.is_silent courier.asked old mid before.endpoint own (passes_first disk.faults disk.stops_in disk.is_tame courier.troubles courier.is_silent courier.asked old mid before after own c.requires.under_way c.requires.peers c.ask.ensures.go_on c.ask.ensures.lists c.ask.ensures.asked c.ask.ensures.meets) c.wanting.result c.wanting.ensures
 
 pub returns-in-Ok-Some-clause-bounds : goal.returns-in-Ok-Some-clause-bounds
 returns-in-Ok-Some-clause-bounds g c =

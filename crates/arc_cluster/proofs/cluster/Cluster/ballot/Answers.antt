@@ -78,7 +78,7 @@ returns-in-Ok-false-clause-ends g c = λ start come.
     let p = c.args.proposer.now in
     let q = c.prepare.new.proposer in
     let passed = passes disk.faults disk.stops_in disk.is_tame courier.troubles courier.is_silent courier.asked start old mid before own p.shown (asks_left 3 before) (asks_left 1 before) (λ d. ⊥)
-    come (λ d none. absurd none) c.prepare.ensures.go_on c.prepare.ensures.others c.prepare.ensures.asked (λ peer lt. one_is_left before 2 peer) in
+    come (λ d none. absurd none) c.prepare.ensures.go_on c.prepare.ensures.others c.prepare.ensures.asked (λ peer lt. one_is_left before 2 peer) c.prepare.ensures.meets in
     ended_down disk.faults disk.stops_in disk.is_tame courier.troubles courier.is_silent courier.asked start mid before.endpoint own passed
     (c.prepare.ensures.fallen (c.in-Ok-false.is ∙ ap Ok c.in-Ok-false.field-0-test))
 
@@ -94,7 +94,7 @@ returns-in-Err-clause-ends g c = λ start come.
     let p = c.args.proposer.now in
     let q = c.prepare.new.proposer in
     let passed = passes disk.faults disk.stops_in disk.is_tame courier.troubles courier.is_silent courier.asked start old mid before own p.shown (asks_left 3 before) (asks_left 1 before) (λ d. ⊥)
-    come (λ d none. absurd none) c.prepare.ensures.go_on c.prepare.ensures.others c.prepare.ensures.asked (λ peer lt. one_is_left before 2 peer) in
+    come (λ d none. absurd none) c.prepare.ensures.go_on c.prepare.ensures.others c.prepare.ensures.asked (λ peer lt. one_is_left before 2 peer) c.prepare.ensures.meets in
     ended_wanting disk.faults disk.stops_in disk.is_tame courier.troubles courier.is_silent courier.asked start mid before.endpoint own passed c.wanting.result c.wanting.ensures
 
 pub returns-in-Ok-true-clause-bounds : goal.returns-in-Ok-true-clause-bounds

@@ -1,10 +1,9 @@
 use Rattle.std.proofs.Common.{◌≡◌, ◌<◌, ℕ, Bool, Ok, true, false, inl, inr, refl, sym, ◌∙◌, ap, subst, arith}
 use Rattle.arc_bytes.specs.Five.{at}
 use Rattle.arc_data.specs.declared.command.Command.{Command}
-use Rattle.arc_cluster.specs.Attempts.{HasRisenOnce}
 use Rattle.arc_cluster.specs.Coming.{asks_left}
 use Rattle.arc_cluster.proofs.Beginning.{peers_stay}
-use Rattle.arc_cluster.proofs.Coming.{comes_on, ended_closed, ended_down, ended_wanting, passes}
+use Rattle.arc_cluster.proofs.Coming.{comes_on, ended_closed, ended_down, ended_wanting, met_same, passes}
 use Rattle.arc_cluster.proofs.Ending.{not_asked, voted_stays}
 use Rattle.arc_cluster.proofs.Onward.{peers_after}
 use Rattle.arc_cluster.proofs.cluster.Cluster.close_known.Goals as goal
@@ -20,14 +19,14 @@ returns-in-Ok-true-clause-ends g c = λ start shown come may.
     let own : Command = c.args.c.now in
     let passed = passes disk.faults disk.stops_in disk.is_tame courier.troubles courier.is_silent courier.asked start old mid before own shown (asks_left 0 before) (λ peer. 0) (λ d. ⊥)
     come (λ d none. absurd none) c.learn_own.ensures.go_on (λ node lt other out. c.learn_own.ensures.others node lt other)
-    (not_asked courier.asked old.courier mid.courier c.learn_own.ensures.courier) (λ peer lt. omega arith) in
+    (not_asked courier.asked old.courier mid.courier c.learn_own.ensures.courier) (λ peer lt. omega arith)
+    (met_same courier.troubles old.courier mid.courier before c.learn_own.ensures.courier) in
     let closed = c.learn_own.ensures.closed (c.in-Ok-true.is ∙ ap Ok c.in-Ok-true.field-0-test) in
     ended_closed disk.faults disk.stops_in disk.is_tame courier.troubles courier.is_silent courier.asked start mid before.endpoint own passed before.slot command c.placed.result come.slot closed.1
     (record {
       closed = closed.0;
       voted = voted_stays old.nodes mid.nodes (λ d. ⊥) before.slot command c.learn_own.ensures.go_on.nodes.follow c.requires.chosen;
     })
-    (λ peer lt. subst (λ k. HasRisenOnce (courier.troubles start.courier peer) (courier.troubles k peer)) (sym c.learn_own.ensures.courier) (come.peers.once peer lt))
     may c.placed.ensures
 
 pub returns-in-Ok-false-clause-ends : goal.returns-in-Ok-false-clause-ends
@@ -41,7 +40,8 @@ returns-in-Ok-false-clause-ends g c = λ start shown come may.
     let own : Command = c.args.c.now in
     let passed = passes disk.faults disk.stops_in disk.is_tame courier.troubles courier.is_silent courier.asked start old mid before own shown (asks_left 0 before) (λ peer. 0) (λ d. ⊥)
     come (λ d none. absurd none) c.learn_own.ensures.go_on (λ node lt other out. c.learn_own.ensures.others node lt other)
-    (not_asked courier.asked old.courier mid.courier c.learn_own.ensures.courier) (λ peer lt. omega arith) in
+    (not_asked courier.asked old.courier mid.courier c.learn_own.ensures.courier) (λ peer lt. omega arith)
+    (met_same courier.troubles old.courier mid.courier before c.learn_own.ensures.courier) in
     ended_down disk.faults disk.stops_in disk.is_tame courier.troubles courier.is_silent courier.asked start mid before.endpoint own passed
     (c.learn_own.ensures.fallen (c.in-Ok-false.is ∙ ap Ok c.in-Ok-false.field-0-test))
 
@@ -56,5 +56,6 @@ returns-in-Err-clause-ends g c = λ start shown come may.
     let own : Command = c.args.c.now in
     let passed = passes disk.faults disk.stops_in disk.is_tame courier.troubles courier.is_silent courier.asked start old mid before own shown (asks_left 0 before) (λ peer. 0) (λ d. ⊥)
     come (λ d none. absurd none) c.learn_own.ensures.go_on (λ node lt other out. c.learn_own.ensures.others node lt other)
-    (not_asked courier.asked old.courier mid.courier c.learn_own.ensures.courier) (λ peer lt. omega arith) in
+    (not_asked courier.asked old.courier mid.courier c.learn_own.ensures.courier) (λ peer lt. omega arith)
+    (met_same courier.troubles old.courier mid.courier before c.learn_own.ensures.courier) in
     ended_wanting disk.faults disk.stops_in disk.is_tame courier.troubles courier.is_silent courier.asked start mid before.endpoint own passed c.wanting.result c.wanting.ensures

@@ -9,5 +9,5 @@ returns-in-Ok-clause-in_order g c =
     record {
       nodes =
           created_in_order nodes c.args.max_slots c.in-Ok.ensures.created disk.tells disk.content disk.may_leave c.in-Ok.ensures.in_order;
-      held = nothing_is_held nodes c.none.result.letters.items c.none.ensures;
+      held = nothing_is_held nodes c.none.result.envelopes.items c.none.ensures;
     }

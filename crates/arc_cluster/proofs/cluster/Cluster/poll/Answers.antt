@@ -94,7 +94,7 @@ returns-in-Ok-Fallen-clause-ends g c = λ start come.
     let p = c.args.proposer.now in
     let proposal : Command = c.args.proposal.now in
     let passed = passes disk.faults disk.stops_in disk.is_tame courier.troubles courier.is_silent courier.asked start old mid before own p.shown (asks_left 2 before) (asks_left 1 before) (λ d. d ≡ p.own)
-    come (λ d is. is ∙ c.requires.proposer.own_is) c.vote.ensures.go_on c.vote.ensures.others c.vote.ensures.asked (λ peer lt. one_is_left before 1 peer) in
+    come (λ d is. is ∙ c.requires.proposer.own_is) c.vote.ensures.go_on c.vote.ensures.others c.vote.ensures.asked (λ peer lt. one_is_left before 1 peer) c.vote.ensures.meets in
     ended_down disk.faults disk.stops_in disk.is_tame courier.troubles courier.is_silent courier.asked start mid before.endpoint own passed (c.vote.ensures.fallen (c.in-Ok-Fallen.is ∙ ap Ok c.in-Ok-Fallen.field-0-is))
 
 pub returns-in-Err-clause-ends : goal.returns-in-Err-clause-ends
@@ -109,7 +109,7 @@ returns-in-Err-clause-ends g c = λ start come.
     let p = c.args.proposer.now in
     let proposal : Command = c.args.proposal.now in
     let passed = passes disk.faults disk.stops_in disk.is_tame courier.troubles courier.is_silent courier.asked start old mid before own p.shown (asks_left 2 before) (asks_left 1 before) (λ d. d ≡ p.own)
-    come (λ d is. is ∙ c.requires.proposer.own_is) c.vote.ensures.go_on c.vote.ensures.others c.vote.ensures.asked (λ peer lt. one_is_left before 1 peer) in
+    come (λ d is. is ∙ c.requires.proposer.own_is) c.vote.ensures.go_on c.vote.ensures.others c.vote.ensures.asked (λ peer lt. one_is_left before 1 peer) c.vote.ensures.meets in
     ended_wanting disk.faults disk.stops_in disk.is_tame courier.troubles courier.is_silent courier.asked start mid before.endpoint own passed c.wanting.result c.wanting.ensures
 
 pub returns-in-Ok-Chosen-clause-bounds : goal.returns-in-Ok-Chosen-clause-bounds

@@ -1,8 +1,9 @@
-use Rattle.std.proofs.Common.{◌≡◌, sym, subst}
+use Rattle.std.proofs.Common.{◌≡◌, refl, sym, subst}
 use Rattle.arc_data.specs.declared.command.Command.{Command}
 use Rattle.arc_cluster.specs.Phases.{IsVotedForGood}
 use Rattle.arc_cluster.specs.Work.{IsUnderWay, TakesPart}
 use Rattle.arc_voting.specs.Journals.{ByThree}
+use Rattle.arc_cluster.proofs.Coming.{met_same}
 use Rattle.arc_cluster.proofs.Onward.{cluster_same}
 use Rattle.arc_cluster.proofs.Bounds.{gives_same}
 use Rattle.arc_cluster.proofs.cluster.Cluster.vote.Goals as goal
@@ -20,3 +21,6 @@ returns-clause-chosen g c = λ ended.
 
 pub returns-in_default-clause-bounds : goal.returns-in_default-clause-bounds
 returns-in_default-clause-bounds g c = gives_same 0 2 c.args.self.now.nodes
+
+pub returns-in_default-clause-meets : goal.returns-in_default-clause-meets
+returns-in_default-clause-meets g c = met_same g.C.Courier.troubles c.args.self.now.courier c.args.self.now.courier c.args.work.now refl

@@ -1,9 +1,10 @@
 use Rattle.std.proofs.Common.{◌≡◌, subst}
 use Rattle.arc_data.specs.declared.command.Command.{Command}
 use Rattle.arc_cluster.specs.Phases.{IsVotedForGood}
-use Rattle.arc_cluster.specs.Work.{IsUnderWay, TakesPart}
+use Rattle.arc_cluster.specs.Work.{IsUnderWay, MeetOnce, TakesPart}
 use Rattle.arc_voting.specs.Journals.{ByThree}
 use Rattle.arc_cluster.proofs.Beginning.{peers_stay}
+use Rattle.arc_cluster.proofs.Coming.{met_same}
 use Rattle.arc_cluster.proofs.Onward.{cluster_then}
 use Rattle.arc_cluster.proofs.Bounds.{gives_more, gives_then}
 use Rattle.arc_cluster.proofs.cluster.Cluster.vote_by.Goals as goal
@@ -36,3 +37,15 @@ returns-in-Ok-false-clause-bounds g c = gives_more 0 1 0 1 c.args.self.now.nodes
 
 pub returns-in-Err-clause-bounds : goal.returns-in-Err-clause-bounds
 returns-in-Err-clause-bounds g c = gives_more 0 1 0 1 c.args.self.now.nodes c.vote_own.new.self.nodes c.vote_own.ensures.bounds
+
+pub returns-in-Ok-true-clause-meets : goal.returns-in-Ok-true-clause-meets
+returns-in-Ok-true-clause-meets g c =
+    subst (λ k. MeetOnce g.C.Courier.troubles k c.ask_votes.new.self.courier c.args.work.now) c.vote_own.ensures.courier c.ask_votes.ensures.meets
+
+pub returns-in-Ok-false-clause-meets : goal.returns-in-Ok-false-clause-meets
+returns-in-Ok-false-clause-meets g c =
+    met_same g.C.Courier.troubles c.args.self.now.courier c.vote_own.new.self.courier c.args.work.now c.vote_own.ensures.courier
+
+pub returns-in-Err-clause-meets : goal.returns-in-Err-clause-meets
+returns-in-Err-clause-meets g c =
+    met_same g.C.Courier.troubles c.args.self.now.courier c.vote_own.new.self.courier c.args.work.now c.vote_own.ensures.courier

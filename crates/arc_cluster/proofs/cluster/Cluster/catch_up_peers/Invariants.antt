@@ -1,12 +1,12 @@
-use Rattle.arc_cluster.proofs.Teaching.{Teaching, all_left}
-use Rattle.arc_cluster.proofs.cluster.Cluster.teach.Given as goal
+use Rattle.arc_cluster.proofs.CatchingUp.{CatchingUp, all_left}
+use Rattle.arc_cluster.proofs.cluster.Cluster.catch_up_peers.Given as goal
 
 -- how the cluster went on so far
 abbrev pub invariant-loop-alloc : goal.invariant-loop-alloc
 invariant-loop-alloc g l =
     let disk = g.D.Disk in
     let courier = g.C.Courier in
-    Teaching disk.tells disk.content disk.may_leave disk.faults disk.stops_in disk.is_tame courier.troubles courier.asked
+    CatchingUp disk.tells disk.content disk.may_leave disk.faults disk.stops_in disk.is_tame courier.troubles courier.asked
     courier.is_silent
     l.fn.self l.self l.fn.work l.work
 

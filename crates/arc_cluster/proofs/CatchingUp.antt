@@ -14,7 +14,7 @@ use Rattle.arc_cluster.specs.Work.{IsUnderWay, PeersGoOn}
 use Rattle.arc_cluster.specs.declared.cluster.Cluster.{Cluster}
 use Rattle.arc_cluster.specs.declared.work.Work.{Work}
 use Rattle.arc_cluster.proofs.Onward.{asks_more, asks_none, asks_then, cluster_on, cluster_same, peers_same, peers_then}
-use Rattle.arc_cluster.proofs.Taught.{behind_is, left_in, not_behind_is, one_at_least}
+use Rattle.arc_cluster.proofs.CaughtUp.{behind_is, left_in, not_behind_is, one_at_least}
 
 -- how many exchanges are left to all peers
 abbrev pub all_left : Work → ℕ
@@ -87,7 +87,7 @@ module _ {D C : Type 0} (tells : Type 0) (content : D → List ℕ) (may_leave :
     (stops_in : D → Option ℕ)
     (is_tame : D → Type 0) (troubles : C → ℕ → ℕ) (asked : C → Option (ℕ → ℕ)) (is_silent : C → ℕ → Type 0) where
   -- how a cluster goes on by what its peers are told
-  pub record Teaching (first now : Cluster D C) (before work : Work) : Type 0 where
+  pub record CatchingUp (first now : Cluster D C) (before work : Work) : Type 0 where
     pub in_order : IsInOrder tells content may_leave now
     pub on : ClusterGoesOn faults stops_in is_tame troubles is_silent (λ c. ⊥) first now
     pub peers : PeersGoOn troubles first now before work
@@ -101,10 +101,10 @@ module _ {D C : Type 0} (tells : Type 0) (content : D → List ℕ) (may_leave :
         (λ peer. exchanges_left before peer - exchanges_left work peer)
 
   -- before the first exchange
-  pub teaching_begins : (first : Cluster D C) (work : Work) → IsInOrder tells content may_leave first
+  pub catching_up_begins : (first : Cluster D C) (work : Work) → IsInOrder tells content may_leave first
       → IsUnderWay first.nodes work
-      → KnowsLengths first.nodes work → Teaching first first work work
-  teaching_begins first work order way known = record {
+      → KnowsLengths first.nodes work → CatchingUp first first work work
+  catching_up_begins first work order way known = record {
     in_order = order;
     on = cluster_same faults stops_in is_tame troubles is_silent (λ c. ⊥) first;
     peers = peers_same faults stops_in is_tame troubles is_silent first work way.peers;
@@ -118,7 +118,7 @@ module _ {D C : Type 0} (tells : Type 0) (content : D → List ℕ) (may_leave :
   }
 
   -- what one exchange more leaves, whether it ended well or not
-  module _ (first now next : Cluster D C) (before work : Work) (so_far : Teaching first now before work)
+  module _ (first now next : Cluster D C) (before work : Work) (so_far : CatchingUp first now before work)
       (on : ClusterGoesOn faults stops_in is_tame troubles is_silent (λ c. ⊥) now next)
       (promises : (node : ℕ) → node < 5 → promise (kept (at next.nodes node)) ≡ promise (kept (at now.nodes node)))
       (counts : (node : ℕ) → node < 5 → GivesNone (kept (at now.nodes node)) (kept (at next.nodes node)))
@@ -162,10 +162,10 @@ module _ {D C : Type 0} (tells : Type 0) (content : D → List ℕ) (may_leave :
         omega (arith, l, b)) asked_then
 
     -- and where it ended well
-    pub teaching_on : (after : Work) → IsInOrder tells content may_leave next → PeersGoOn troubles now next work after
+    pub catching_up_on : (after : Work) → IsInOrder tells content may_leave next → PeersGoOn troubles now next work after
         → IsUnderWay next.nodes after
-        → KnowsLengths next.nodes after → HasFewerLeft work after → Teaching first next before after
-    teaching_on after order peers way known fewer = record {
+        → KnowsLengths next.nodes after → HasFewerLeft work after → CatchingUp first next before after
+    catching_up_on after order peers way known fewer = record {
       in_order = order;
       on = on_then;
       peers = peers_then faults stops_in is_tame troubles is_silent
@@ -189,7 +189,7 @@ module _ {D C : Type 0} (tells : Type 0) (content : D → List ℕ) (may_leave :
     }
 
   -- in the end
-  pub asked_so : (first now : Cluster D C) (before work : Work) → Teaching first now before work
+  pub asked_so : (first now : Cluster D C) (before work : Work) → CatchingUp first now before work
       → AsksAtMost (asked first.courier) (asked now.courier) (exchanges_left before)
   asked_so first now before work so_far =
       asks_more (asked first.courier) (asked now.courier) (λ peer. exchanges_left before peer - exchanges_left work peer)

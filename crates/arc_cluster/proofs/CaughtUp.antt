@@ -1,5 +1,7 @@
 -- Peers that are told what they lack.
-use Rattle.std.proofs.Common.{◌≡◌, ◌≢◌, ◌+◌, ◌-◌, ◌/◌, ◌<◌, ◌≤◌, ⊎_elim, ℕ, zero, suc, List, Option, Some, [], ◌∷◌, ◌||◌, ◌&&◌, ◌==◌, true, false, true≢false, cond, length, min, nat_lt, refl, sym, ◌∙◌, ap, subst, arith}
+use Rattle.std.proofs.Common.{◌≡◌, ◌≢◌, ◌+◌, ◌-◌, ◌/◌, ◌<◌, ◌≤◌, ⊎_elim, ℕ, zero, suc, Bool, List, Option, Some, [], ◌∷◌, ◌||◌, ◌&&◌, ◌==◌, true, false, true≢false, cond, length, min, nat_lt, refl, sym, ◌∙◌, ap, subst, arith}
+use Rattle.std.specs.Borrow.{Bor}
+use Rattle.std.specs.Global.{Vec}
 use Rattle.std.specs.List.{Contains, slice_get}
 use Rattle.std.proofs.lemmas.Bool.{cases_Bool, ltb-true, ltb-false}
 use Rattle.std.proofs.lemmas.List.Elements.{All-contains_itself, All-head, All-tail, All-weaker}
@@ -17,7 +19,7 @@ use Rattle.arc_data.specs.declared.record.Record.{Record}
 use Rattle.arc_data.specs.declared.record.Record.TheVariants.{Opened, Promised, Voted, Closed}
 use Rattle.arc_journal.specs.Image.{AreWithin, IsWithin}
 use Rattle.arc_node.specs.Handling.{IsReceivable}
-use Rattle.arc_node.specs.Node.{kept, slots_in}
+use Rattle.arc_node.specs.Node.{is_up, kept, slots_in}
 use Rattle.arc_node.specs.declared.node.Node.{Node}
 use Rattle.arc_voting.specs.Chosen.{IsChosen}
 use Rattle.arc_voting.specs.Journals.{Journals}
@@ -27,10 +29,10 @@ use Rattle.arc_voting.specs.Replies.{learns}
 use Rattle.arc_voting.proofs.Answering.{applied_are_chosen}
 use Rattle.arc_voting.proofs.Grown.{chosen_stay}
 use Rattle.arc_voting.proofs.Uses.{applied_length}
-use Rattle.arc_cluster.specs.Asking.{HasFewerLeft, exchanges_left, is_behind, lacking, length_noted, lengths_noted, next_told}
+use Rattle.arc_cluster.specs.Asking.{HasFewerLeft, IsMail, exchanges_left, is_behind, lacking, length_noted, lengths_noted, next_told}
 use Rattle.arc_cluster.specs.Attempts.{GivesNone}
 use Rattle.arc_cluster.specs.Exchange.{AllExchanged, AllGrow, MayBeExchanged, has_messages}
-use Rattle.arc_cluster.specs.Handling.{AreReceivable, IsGrownBy}
+use Rattle.arc_cluster.specs.Handling.{AreReceivable, IsGrownBy, lent_to, mail_of}
 use Rattle.arc_cluster.specs.Nodes.{AreInOrder, IsChoice}
 use Rattle.arc_cluster.specs.Onward.{AsksAtMost}
 use Rattle.arc_cluster.specs.Phases.{KnowsLengths}
@@ -39,9 +41,16 @@ use Rattle.arc_cluster.specs.declared.cluster.Cluster.{Cluster}
 use Rattle.arc_cluster.specs.declared.work.Work.{Work}
 use Rattle.arc_cluster.proofs.Choices.{kept_are_chosen, kept_begin, kept_of}
 use Rattle.arc_cluster.proofs.Counts.{one_or_none, told_gives_none}
-use Rattle.arc_cluster.proofs.Onward.{asks_more}
+use Rattle.arc_cluster.proofs.Onward.{asks_more, peers_after}
 use Rattle.arc_cluster.proofs.Statuses.{noted_at, some_answer}
 use Rattle.arc_cluster.proofs.Told.{learn_in, learns_length, told_answer, told_length, told_promise, told_there}
+
+-- what each node is lent, where the endpoint wrote what peers lack
+pub lent_lacking : {D : Type 0} (mail : Five (Vec Message)) (lent : Five (Bor (List Message))) (own endpoint : Node D) (work : Work)
+    → lent_to lent ≡ mail_of mail → own ≡ endpoint → IsMail mail (lacking (applied (kept own)) work)
+    → (node : ℕ) → node < 5 → lent_to lent node ≡ lacking (applied (kept endpoint)) work node
+lent_lacking {D} mail lent own endpoint work lends same is node lt =
+    ap (λ (m : Mail). m node) lends ∙ is node lt ∙ ap (λ (n : Node D). lacking (applied (kept n)) work node) same
 
 -- a command that was applied is valid where the entries are within their limits
 applied_valid : (slots : ℕ) (entries : List Record) (k : ℕ) (c : Command) → AreWithin slots entries
@@ -87,6 +96,38 @@ pub no_mail_of : (list : List Command) (work : Work) (peer : ℕ) → is_behind 
     → lacking list work peer ≡ []
 no_mail_of list work peer is =
     ap (λ b. cond b (learns (at work.lengths peer) (next_told list (at work.lengths peer) work.slot)) []) is
+
+-- who isn't in is told nothing, and stays as it is
+pub others_stay : {D : Type 0} (old new : Five (Node D)) (work : Work) (list : List Command) (mail : Mail)
+    → ((node : ℕ) → node < 5 → mail node ≡ lacking list work node) → AllGrow old new mail
+    → (node : ℕ) → node < 5 → at work.peers node ≡ false → at new node ≡ at old node
+others_stay old new work list mail is grown node lt out =
+    (grown node lt).1
+    (is node lt ∙ no_mail_of list work node (ap (λ (b : Bool). b && nat_lt (at work.lengths node) work.slot) out))
+
+-- the attempt is under way still, where the endpoint's node is as it was
+pub told_under_way : {D C : Type 0} (faults : D → ℕ) (stops_in : D → Option ℕ) (is_tame : D → Type 0) (troubles : C → ℕ → ℕ)
+    (is_silent : C → ℕ → Type 0) (old new : Cluster D C) (before after noted : Work) (lengths : Five ℕ) → IsUnderWay old.nodes before
+    → PeersGoOn troubles old new before after → at new.nodes before.endpoint ≡ at old.nodes before.endpoint
+    → noted ≡ record after { lengths = lengths } → IsUnderWay new.nodes noted
+told_under_way {D} faults stops_in is_tame troubles is_silent old new before after noted lengths way on own is =
+    let has = peers_after faults stops_in is_tame troubles is_silent old new before after way.peers on in
+    let P : ℕ → Type 0 = λ e. (is_up (at new.nodes e) ≡ true) × (after.slot ≡ closed_len (kept (at new.nodes e)))
+    × (after.slot < slots_in (at new.nodes e)) in
+    let here : P before.endpoint = (
+      ap is_up own ∙ way.up,
+      on.same.slot ∙ way.open_slot ∙ ap (λ (n : Node D). closed_len (kept n)) (sym own),
+      subst (λ (s : ℕ). s < slots_in (at new.nodes before.endpoint)) (sym on.same.slot)
+          (subst (λ (n : Node D). before.slot < slots_in n) (sym own) way.below),
+    ) in
+    let there : P after.endpoint = subst P (sym on.same.endpoint) here in
+    subst (IsUnderWay new.nodes) (sym is)
+    (record {
+      peers = record { of_five = has.of_five; own_out = has.own_out; in_up = has.in_up };
+      up = there.0;
+      open_slot = there.1;
+      below = there.2;
+    })
 
 module _ {D : Type 0} (tells : Type 0) (content : D → List ℕ) (may_leave : D → List ℕ → Type 0) (nodes : Five (Node D))
     (work : Work)

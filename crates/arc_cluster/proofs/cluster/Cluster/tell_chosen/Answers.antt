@@ -5,7 +5,7 @@ use Rattle.arc_cluster.specs.Exchange.{MayBeSent}
 use Rattle.arc_cluster.proofs.Closing.{learn_may_be_sent}
 use Rattle.arc_cluster.proofs.Onward.{cluster_same}
 use Rattle.arc_cluster.proofs.Bounds.{gives_same, gives_sent}
-use Rattle.arc_cluster.proofs.cluster.Cluster.spread.Goals as goal
+use Rattle.arc_cluster.proofs.cluster.Cluster.tell_chosen.Goals as goal
 
 pub returns-in_default-clause-go_on : goal.returns-in_default-clause-go_on
 returns-in_default-clause-go_on g c =
