@@ -15,7 +15,7 @@ use std::process::Abort;
 use std::test::Fail;
 
 /// Attempts one command of a node once for each row: how the attempt ends, and what the node promises then.
-fn check<D: Disk>(
+pub(crate) fn check<D: Disk>(
     rt: &(impl Abort + AllocGlobal),
     nodes: &mut Cluster<D, Scripted>,
     node: u8,
@@ -59,10 +59,10 @@ fn check_attempts<D: Disk>(
 }
 
 /// What becomes of three exchanges of an attempt whose accept and learn are withheld, again and again.
-const WITHHELD: [Fate; 3] = [Now, Now, Later];
+pub(crate) const WITHHELD: [Fate; 3] = [Now, Now, Later];
 
 /// Attempts of node 0 for one command, while the accepts to all peers but node 1 are withheld.
-const DISTURBED: [(End, u64); 8] = [
+pub(crate) const DISTURBED: [(End, u64); 8] = [
     (Disturbed(0, 3), 5),
     (Disturbed(0, 3), 10),
     (Disturbed(0, 3), 15),

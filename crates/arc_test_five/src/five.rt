@@ -43,7 +43,7 @@ pub(crate) fn set<D: Disk>(nodes: &mut Cluster<D, Scripted>, peer: u8, cycle: bo
 }
 
 /// A command with this identifier: a read of control 1.
-fn command(id: CommandId) -> Command
+pub(crate) fn command(id: CommandId) -> Command
     requires { IsInRange id }
     ensures id { result.id ≡ id }
     ensures valid { IsValidCommand result }
