@@ -10,7 +10,7 @@ use arc_token::Token;
 use std::alloc::Global;
 use std::process::Abort;
 use std::slice;
-use std::sync::Wait;
+use std::sync::{Barrier, Wait};
 use std::test::Fail;
 use std::thread::{Threads, join};
 
@@ -193,5 +193,77 @@ fn a_reader_beside_a_writer_never_goes_back(rt: HostRuntime) -> Result<(), Fail>
     drop(side);
     assert!(rt; written.is_ok() && published == 50);
     assert!(rt; last.is_ok());
+    Ok(())
+}
+
+/// How many rounds the writer and the reader take in turn.
+const ROUNDS: u64 = 50;
+
+/// A writer that publishes one command a round, and then lets the reader read. It goes through all rounds even where it
+/// fails, since the reader waits for it in each.
+fn write_in_turn<H: Wait + Drop>(
+    rt: &impl Wait,
+    alloc: Global,
+    mut side: WriteSide<H>,
+    turn: &Barrier,
+) -> (WriteSide<H>, Result<(), Memory>) {
+    let mut written = Ok(());
+    for _ in 0..ROUNDS {
+        if written.is_ok() {
+            written = publish_one(alloc, &mut side, list_resources());
+        }
+        turn.wait(rt);
+        turn.wait(rt);
+    }
+    (side, written)
+}
+
+/// A reader that reads once a round, behind the writer's command, and asks for it. Tells whether each read entered just the
+/// commands that were published by then.
+fn read_in_turn(rt: &impl Wait, alloc: Global, mut reader: ReadSide, turn: &Barrier) -> bool {
+    let mut has_met_each = true;
+    for round in 0..ROUNDS {
+        turn.wait(rt);
+        if told(alloc, &mut reader, round + 1) != Ok((false, round + 1)) {
+            has_met_each = false;
+        }
+        turn.wait(rt);
+    }
+    drop(reader);
+    has_met_each
+}
+
+/// A writer, and a reader in another thread, which go round by round.
+fn take_turns<R: Threads + Wait + Sync, H: Wait + Drop>(
+    rt: &R,
+    alloc: Global,
+    side: WriteSide<H>,
+    reader: ReadSide,
+) -> (WriteSide<H>, Result<(), Memory>, bool) {
+    let turn = Barrier::new(2);
+    let (has_met_each, (side, written)) = join(
+        rt,
+        || read_in_turn(rt, alloc, reader, &turn),
+        || write_in_turn(rt, alloc, side, &turn),
+    );
+    (side, written, has_met_each)
+}
+
+#[test]
+fn a_reader_in_another_thread_meets_each_command_once_it_is_published(
+    rt: HostRuntime,
+) -> Result<(), Fail> {
+    let (side, mut reads) = sides(rt.alloc(), &rt, 1, &mut Handles::default())?;
+    let reader = reads.pop();
+    drop(reads);
+    let Some(reader) = reader else {
+        drop(side);
+        return Err(Fail::new("there is no reader"));
+    };
+    let (side, written, has_met_each) = take_turns(&rt, rt.alloc(), side, reader);
+    let published = side.published();
+    drop(side);
+    assert!(rt; written.is_ok() && published == ROUNDS);
+    assert!(rt; has_met_each);
     Ok(())
 }
