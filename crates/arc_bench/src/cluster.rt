@@ -85,7 +85,7 @@ fn place_all<D: Disk, C: Courier + Drop>(
 }
 
 /// Five new nodes that have placed a batch with this body so often; none where there is no such batch or they can't be made.
-fn filled(alloc: Global, body: &[u8], commands: u32) -> Option<Cluster<MemoryDisk, Direct>> {
+pub fn filled(alloc: Global, body: &[u8], commands: u32) -> Option<Cluster<MemoryDisk, Direct>> {
     let mut command = command_by(alloc, body).ok()?;
     let nodes = filled_with(alloc, &mut command, commands);
     drop(command);

@@ -12,6 +12,7 @@ use arc_json::{RequestEnd, read_op};
 use std::alloc::Global;
 use std::fs;
 use std::rt::Files;
+use std::time::{Clock, Instant};
 
 /// How many entries are appended.
 const ENTRIES: u32 = 10_000;
@@ -99,7 +100,7 @@ pub fn append(rt: &(impl AllocGlobal + Files), body: &[u8], path: Option<&String
 }
 
 /// Writes bytes to the file with this name, where there is one, and counts them; 0 where that failed.
-fn write(rt: &impl Files, path: Option<&String>, bytes: &[u8]) -> usize {
+pub fn write(rt: &impl Files, path: Option<&String>, bytes: &[u8]) -> usize {
     match path {
         Some(path) if fs::write(rt, path.as_str(), bytes).is_err() => 0,
         _ => bytes.len(),
@@ -124,4 +125,38 @@ pub fn adopt(alloc: Global, bytes: &[u8]) -> usize {
     drop(records);
     drop(journal);
     count
+}
+
+/// How long it takes to adopt a journal of node 0 from a disk with these bytes, in nanoseconds, without the making of the disk;
+/// `None` where it is refused or the clock isn't to be had.
+fn nanos_of_adoption<C: Clock>(clock: &C, alloc: Global, bytes: &[u8]) -> Option<usize> {
+    let Ok(disk) = disk_of(alloc, bytes) else {
+        return None;
+    };
+    let start = Instant::now(clock);
+    let adopted = Journal::adopt(alloc, disk, 0);
+    let elapsed = match start {
+        Ok(start) => start.elapsed(clock),
+        Err(refused) => Err(refused),
+    };
+    let is_adopted = adopted.is_ok();
+    drop(adopted);
+    match elapsed {
+        Ok(elapsed) if is_adopted => usize::try_from(elapsed.as_nanos()).ok(),
+        _ => None,
+    }
+}
+
+/// The least nanoseconds that one of so many adoptions took; 0 where one failed.
+pub fn adopt_alone<C: Clock>(clock: &C, alloc: Global, bytes: &[u8], times: u32) -> usize {
+    let mut least = 0;
+    for _ in 0..times {
+        let Some(nanos) = nanos_of_adoption(clock, alloc, bytes) else {
+            return 0;
+        };
+        if least == 0 || nanos < least {
+            least = nanos;
+        }
+    }
+    least
 }

@@ -4,11 +4,14 @@
 
 mod audit;
 mod cluster;
+mod engine;
 mod http;
 mod journal;
 mod json;
 mod measured;
 mod node;
+mod opening;
+mod snapshot;
 mod turn;
 
 use crate::measured::measured;
@@ -20,7 +23,9 @@ fn main(rt: HostRuntime) -> io::Result<()> {
     let start = Instant::now(&rt)?;
     let words = env::args(&rt)?;
     let Some(count) = measured(&rt, words) else {
-        return println!(rt; "measurements: audit, cluster, http, journal, json, node, turn");
+        return println!(rt;
+            "measurements: audit, cluster, engine, http, journal, json, node, opening, snapshot, turn"
+        );
     };
     let nanos = start.elapsed(&rt)?.as_nanos();
     println!(rt; "nanoseconds {nanos} count {count}")

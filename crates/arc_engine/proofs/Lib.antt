@@ -1,0 +1,9 @@
+pub mod Answered
+pub mod Behind
+pub mod Direct
+pub mod Drawn
+pub mod Ends
+pub mod FiveDisks
+pub mod Going
+pub mod Histories
+pub mod Onward

@@ -1,0 +1,9 @@
+pub mod Engine
+pub mod Calls
+pub mod CatchingUp
+pub mod Attempting
+pub mod Answering
+pub mod Lending
+pub mod Meeting
+pub mod Lens
+pub mod Direct

@@ -1,0 +1,10 @@
+//! What engines promise beside what their calls do, as a call that does nothing.
+ghost use Rattle.arc_engine.specs.Direct.{DirectCallsAreNotRefused};
+
+use arc_disk::Disk;
+
+/// Over a courier that lets each exchange happen, a call at a node that is up ends neither as `Unavailable` nor as `NodeDown`
+/// while three nodes are up, no disk fails and no journal is full.
+pub fn direct_calls_are_not_refused<D: Disk>()
+    ensures { DirectCallsAreNotRefused D.faults D.stops_in D.is_tame }
+{}
