@@ -10,10 +10,6 @@ pub mod Turns
 pub mod Starts
 pub mod Fitness
 pub mod Stepping
-pub mod Values
-pub mod Unseen
-pub mod Broken
-pub mod Obeyed
 pub mod Writing
 pub mod Reporting
 pub mod Whole

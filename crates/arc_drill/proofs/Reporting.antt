@@ -32,7 +32,7 @@ use Rattle.arc_drill.specs.Telling.{Tells, slots_of}
 use Rattle.arc_drill.proofs.Fitness.{fit_one}
 use Rattle.arc_drill.proofs.Counting.{starts_one}
 use Rattle.arc_drill.proofs.Drawing.{first_drawn, first_formed, ids_differ}
-use Rattle.arc_drill.proofs.Obeyed.{obeys_rules}
+use Rattle.arc_told.proofs.Obeyed.{obeys_rules}
 use Rattle.arc_drill.proofs.Places.{item_at}
 use Rattle.arc_drill.proofs.Stepping.{at_node, stands_counted, stands_ends}
 use Rattle.arc_drill.proofs.Writing.{appends_nothing, appends_then, appends_same}

@@ -18,7 +18,7 @@ use Rattle.arc_drill.specs.Lines.{bad_line}
 use Rattle.arc_drill.specs.Shown.{entries_shown}
 use Rattle.arc_drill.specs.Status.{exit_status}
 use Rattle.arc_drill.specs.Telling.{Tells, slots_of}
-use Rattle.arc_drill.specs.Obeying.{ObeysRules}
+use Rattle.arc_told.specs.Obeying.{ObeysRules}
 
 -- the text of a report
 abbrev pub texts : List Line → List ℕ

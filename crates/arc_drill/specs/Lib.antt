@@ -6,7 +6,6 @@ pub mod Shown
 pub mod Calls
 pub mod Telling
 pub mod SoFar
-pub mod Obeying
 pub mod Drilled
 pub mod Since
 pub mod Steps

@@ -23,9 +23,9 @@ use Rattle.arc_plain.specs.ZonalShifts.{cancel_zonal_shift, register_managed_res
 use Rattle.arc_plain.specs.PracticeRuns.{cancel_practice_run, create_practice_configuration, delete_practice_configuration, end_autoshift, set_alarm_state, start_autoshift, start_practice_run, update_autoshift_configuration, update_practice_configuration}
 use Rattle.std.proofs.lemmas.List.Sums.{fold-append}
 use Rattle.arc_plain.specs.State.{Effect, Plain, fresh}
-use Rattle.arc_drill.specs.Obeying.{AreThere, MeetsRules, ObeysRules, OverridesBroken, answer_by, batch_of, rule_of, value_in}
-use Rattle.arc_drill.proofs.Broken.{BreaksBy, Keeps, KeepsIn, create_routing_control-keeps, create_safety_rule-keeps, delete_routing_control-keeps, delete_safety_rule-keeps, keeps_same, update_safety_rule-keeps, update_states-breaks}
-use Rattle.arc_drill.proofs.Unseen.{LeavesSame, told_same, create_control_panel-same, delete_control_panel-same, register_managed_resource-same, start_zonal_shift-same, update_zonal_shift-same, cancel_zonal_shift-same, create_practice_configuration-same, update_practice_configuration-same, delete_practice_configuration-same, start_practice_run-same, cancel_practice_run-same, update_autoshift_configuration-same, start_autoshift-same, end_autoshift-same, set_alarm_state-same}
+use Rattle.arc_told.specs.Obeying.{AreThere, MeetsRules, ObeysRules, OverridesBroken, answer_by, batch_of, rule_of, value_in}
+use Rattle.arc_told.proofs.Broken.{BreaksBy, Keeps, KeepsIn, create_routing_control-keeps, create_safety_rule-keeps, delete_routing_control-keeps, delete_safety_rule-keeps, keeps_same, update_safety_rule-keeps, update_states-breaks}
+use Rattle.arc_told.proofs.Unseen.{LeavesSame, told_same, create_control_panel-same, delete_control_panel-same, register_managed_resource-same, start_zonal_shift-same, update_zonal_shift-same, cancel_zonal_shift-same, create_practice_configuration-same, update_practice_configuration-same, delete_practice_configuration-same, start_practice_run-same, cancel_practice_run-same, update_autoshift_configuration-same, start_autoshift-same, end_autoshift-same, set_alarm_state-same}
 
 -- where all pass, none is found that fails
 pub none_fails : {A : Type 0} (p : A → Bool) (xs : List A) → list_all p xs ≡ true → find (λ x. not (p x)) xs ≡ None

@@ -31,7 +31,7 @@ use Rattle.arc_plain.specs.Rules.{PlainRule, PlainRules, add_rule, after, cause_
 use Rattle.arc_plain.specs.SafetyRules.{create_safety_rule, delete_safety_rule, first_outside, update_safety_rule}
 use Rattle.arc_plain.specs.State.{Effect, Plain, with_panels, with_rules}
 use Rattle.arc_plain.proofs.Lists.{nothing_through}
-use Rattle.arc_drill.proofs.Values.{Agree, agree_everywhere, agree_value, find_kept, find_removed, on_in, on_made}
+use Rattle.arc_told.proofs.Values.{Agree, agree_everywhere, agree_value, find_kept, find_removed, on_in, on_made}
 
 -- each rule that is there before and after has one value in both
 abbrev pub KeepsIn : List ControlItem → List ControlItem → List PlainRule → List PlainRule → Type 0
