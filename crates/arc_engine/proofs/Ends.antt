@@ -1,5 +1,5 @@
 -- What the attempts of a call and its answer make of an engine.
-use Rattle.std.proofs.Common.{◌≡◌, ◌<◌, ◌≤◌, ℕ, List, Option, true, refl, sym, ap, subst, arith}
+use Rattle.std.proofs.Common.{◌≡◌, ◌<◌, ◌≤◌, inl, inr, ℕ, List, Option, true, refl, sym, ap, subst, arith}
 use Rattle.arc_bytes.specs.Five.{at}
 use Rattle.arc_cluster.specs.Nodes.{AreInOrder}
 use Rattle.arc_cluster.specs.Onward.{GoOn}
@@ -10,8 +10,9 @@ use Rattle.arc_state.specs.State.{count_of}
 use Rattle.arc_state.specs.declared.parts.Parts.{Parts}
 use Rattle.arc_voting.specs.Lists.{applied, longest}
 use Rattle.arc_engine.specs.Answering.{Answers, CanAnswer}
-use Rattle.arc_engine.specs.Attempting.{EndsAttempts, MeetInTurn}
+use Rattle.arc_engine.specs.Attempting.{EndsAttempts, MadeInTurn, MeetInTurn}
 use Rattle.arc_engine.specs.Calls.{EndsCall, IsNewId}
+use Rattle.arc_engine.specs.Chain.{MadeAttempts}
 use Rattle.arc_engine.specs.Engine.{IsBehind, all_kept, list_of}
 use Rattle.arc_engine.specs.Meeting.{MeetInCall}
 use Rattle.arc_engine.specs.declared.call_end.CallEnd.{CallEnd}
@@ -114,3 +115,27 @@ module _ {D C : Type 0} (troubles : C → ℕ → ℕ) (old new : Cluster D C) (
   call_meets (NodeDown node) result met (same, is) = subst (MeetInCall troubles old new endpoint) (sym is) tt
   call_meets (ListFull length) result met (same, is) = subst (MeetInCall troubles old new endpoint) (sym is) met
   call_meets Memory result met (same, is) = subst (MeetInCall troubles old new endpoint) (sym is) tt
+
+module _ {D C : Type 0} (faults : D → ℕ) (stops_in : D → Option ℕ) (is_tame : D → Type 0) (troubles : C → ℕ → ℕ)
+    (is_silent : C → ℕ → Type 0) (counts : C → Option (ℕ → ℕ)) (old new : Cluster D C) (endpoint : ℕ) (c : Command) (before after : Parts) where
+  abbrev Made : CallEnd → Type 0
+  Made = MadeAttempts faults stops_in is_tame troubles is_silent counts old new endpoint c
+
+  made_placed : (slot : ℕ) (result : CallEnd) → MadeInTurn faults stops_in is_tame troubles is_silent counts old new endpoint c (Placed slot)
+      → Answers (at new.nodes endpoint) before after (Placed slot) result → Made result
+  made_placed slot (ends.Answered place reply token) made (caught_up, more, answered) =
+      subst (λ (n : ℕ). Made (ends.Answered n reply token)) (sym answered.0) made
+  made_placed slot (ends.Unavailable tallies) made (caught_up, more, answered) = absurd answered
+  made_placed slot (ends.NodeDown node) made (caught_up, more, answered) = absurd answered
+  made_placed slot (ends.ListFull length) made (caught_up, more, answered) = absurd answered
+  made_placed slot ends.Memory made (caught_up, more, answered) = inr (slot, made)
+
+  -- the attempts of the call are those that were made of its command
+  pub call_made : (placing : Placing) (result : CallEnd)
+      → MadeInTurn faults stops_in is_tame troubles is_silent counts old new endpoint c placing
+      → Answers (at new.nodes endpoint) before after placing result → Made result
+  call_made (Placed slot) result made answered = made_placed slot result made answered
+  call_made (Disturbed tallies) result made (same, is) = subst Made (sym is) made
+  call_made (NodeDown node) result made (same, is) = subst Made (sym is) made
+  call_made (ListFull length) result made (same, is) = subst Made (sym is) made
+  call_made Memory result made (same, is) = subst Made (sym is) (inl made)

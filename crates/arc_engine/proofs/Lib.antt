@@ -7,3 +7,4 @@ pub mod FiveDisks
 pub mod Going
 pub mod Histories
 pub mod Onward
+pub mod Promises

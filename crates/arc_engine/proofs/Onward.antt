@@ -1,11 +1,12 @@
 -- How the attempts of a call go on from one to the next, and what each way to end them leaves.
 use Rattle.std.proofs.Common.{◌≡◌, ◌≢◌, ◌+◌, ◌-◌, ◌*◌, ◌/◌, ◌<◌, ◌≤◌, ◌==◌, ◌⊎◌, ⊎_elim, inr, ℕ, Bool, List, Option, [], ◌∷◌, ◌++◌, Some, None, true, false, true≢false, not, ◌&&◌, take, cond, if◌then◌else◌, length, get_or, All, AllPairs, refl, sym, ◌∙◌, ap, subst, arith}
-use Rattle.std.specs.Prelude.{◌^◌, min, Contains}
+use Rattle.std.specs.Prelude.{◌^◌, ◌%◌, min}
+use Rattle.std.specs.List.{count_by}
 use Rattle.std.proofs.lemmas.Bool.{cases_Bool}
 use Rattle.std.proofs.lemmas.List.{length-append, length-take, length_push}
-use Rattle.std.proofs.lemmas.List.Elements.{All-push, Contains-append_cases}
+use Rattle.std.proofs.lemmas.List.Elements.{All-push}
 use Rattle.std.proofs.lemmas.List.Quantifiers.{all_pairs_push}
-use Rattle.std.proofs.lemmas.List.Sums.{count_by-le-length, count_by_more_yes, sum_by-append, sum_by-take-le, sum_by_push}
+use Rattle.std.proofs.lemmas.List.Sums.{count_by-le-length, sum_by_push}
 use Rattle.std.proofs.lemmas.Nat.{row_fits}
 use Rattle.std.proofs.lemmas.Option.{none-some, same_Some}
 use Rattle.arc_bytes.specs.Counts.{HasRisen}
@@ -16,7 +17,7 @@ use Rattle.arc_cluster.proofs.Bounds.{gives_same, gives_then}
 use Rattle.arc_cluster.proofs.Ending.{closed_within}
 use Rattle.arc_cluster.proofs.Onward.{asks_more, asks_none, asks_then, cluster_on, cluster_same}
 use Rattle.arc_cluster.proofs.Placing.{attempts_may_follow}
-use Rattle.arc_cluster.specs.Attempts.{EndsAttempt, GivesAtMost, HasRisenOnce, IsAbsentPeer, IsDown, IsSettled, IsSilentPeer, has_digit, is_peer}
+use Rattle.arc_cluster.specs.Attempts.{EndsAttempt, GivesAtMost, HasNewPromise, HasRisenOnce, IsAbsentPeer, IsDown, IsSettled, IsSilentPeer, has_digit, is_peer}
 use Rattle.arc_cluster.specs.Attempts as one_attempt
 use Rattle.arc_cluster.specs.Cluster.{IsInOrder}
 use Rattle.arc_cluster.specs.Coming.{Ended}
@@ -28,7 +29,7 @@ use Rattle.arc_cluster.specs.declared.attempt.Attempt.{Attempt}
 use Rattle.arc_cluster.specs.declared.attempt.Attempt.TheVariants as one
 use Rattle.arc_cluster.specs.declared.attempt.Tally.{Tally}
 use Rattle.arc_cluster.specs.declared.cluster.Cluster.{Cluster}
-use Rattle.arc_data.specs.Entries.{closed_len, promise}
+use Rattle.arc_data.specs.Entries.{closed_len}
 use Rattle.arc_data.specs.declared.command.Command.{Command}
 use Rattle.arc_data.specs.declared.record.Record.{Record}
 use Rattle.arc_data.specs.declared.record.Record.TheVariants.{Promised}
@@ -37,16 +38,18 @@ use Rattle.arc_node.specs.declared.node.Node.{Node}
 use Rattle.arc_voting.proofs.Facts.{facts_of}
 use Rattle.arc_voting.proofs.Grown.{applied_only_grow}
 use Rattle.arc_voting.proofs.Meeting.{meet}
-use Rattle.arc_voting.proofs.Uses.{applied_length, no_promise_above}
+use Rattle.arc_voting.proofs.Uses.{applied_length}
 use Rattle.arc_voting.specs.Chosen.{HoldsVote}
 use Rattle.arc_voting.specs.Ids.{HasNoVoteOf}
 use Rattle.arc_voting.specs.Journals.{ByThree, Journals, is_promised, promised_count, promises_of}
 use Rattle.arc_voting.specs.Lists.{applied}
-use Rattle.arc_voting.specs.Tracks.{IsWellFormedWhole}
-use Rattle.arc_engine.specs.Attempting.{Attempted, EndsAttempts, MeetAtMost, MeetInTurn, Notes, closed_since}
+use Rattle.arc_engine.specs.Attempting.{Attempted, EndsAttempts, MadeInTurn, MeetAtMost, MeetInTurn, Notes, closed_since}
 use Rattle.arc_engine.specs.Calls.{HasRisenBy, IsTallyOf, lacks, most_attempts}
+use Rattle.arc_engine.specs.Chain.{AttemptsGoOn, EndsWith, IsAttempt, is_own_promise, own_promised_count}
+use Rattle.arc_engine.specs.Chain.AttemptsGoOn.{another_command, disturbed, no_attempt}
 use Rattle.arc_engine.specs.declared.calling.Placing.{Placing}
 use Rattle.arc_engine.specs.declared.calling.Placing.TheVariants.{Placed, Disturbed, NodeDown, ListFull, Memory}
+use Rattle.arc_engine.proofs.Promises.{counts_more, counts_stay, promise_is_own, promise_is_promised}
 
 -- ---- counts
 
@@ -136,40 +139,6 @@ gives_up_to p v p' v' old new a b gives = λ node lt.
     let gv = g.1 in
     (omega (arith, a, gp), omega (arith, b, gv))
 
--- ---- promises
-
--- a list with a promise in it has one at least
-some_promised : (list : List Record) (slot ballot : ℕ) → Contains list (Promised slot ballot) → 1 ≤ promised_count list
-unfolding is_promised
-some_promised list slot ballot (k, within, found) =
-    let is : is_promised (get_or list k (Promised slot ballot)) ≡ true = ap is_promised found in
-    let more = count_by_more_yes is_promised list k (Promised slot ballot) within is in
-    let few = sum_by-take-le (λ (entry : Record). cond {A = ℕ} (is_promised entry) 1 0) list (k + 1) in
-    omega (arith, more, few)
-
--- a list that goes on has no fewer
-promises_stay : (before after more : List Record) → after ≡ before ++ more → promised_count before ≤ promised_count after
-promises_stay before after more is =
-    let sum = sum_by-append (λ (entry : Record). cond {A = ℕ} (is_promised entry) 1 0) before more in
-    let same : promised_count after ≡ promised_count (before ++ more) = ap promised_count is in
-    omega (arith, sum, same)
-
--- and one more at least where one above its promise stands in it
-promises_more : (promises : ℕ) (before after more : List Record) (slot ballot : ℕ) → IsWellFormedWhole promises before → after ≡ before ++ more
-    → promise before < ballot → Contains after (Promised slot ballot) → promised_count before + 1 ≤ promised_count after
-promises_more promises before after more slot ballot formed is above there =
-    let sum = sum_by-append (λ (entry : Record). cond {A = ℕ} (is_promised entry) 1 0) before more in
-    let same : promised_count after ≡ promised_count (before ++ more) = ap promised_count is in
-    ⊎_elim
-    (λ stood.
-    let low = no_promise_above promises before slot ballot formed stood in
-    absurd (omega (arith, low, above)))
-    (λ behind.
-    let one_more = some_promised more slot ballot behind in
-    omega (arith, sum, same, one_more))
-    (Contains-append_cases before more (Promised slot ballot)
-    (subst (λ (list : List Record). Contains list (Promised slot ballot)) is there))
-
 -- whether attempts ended with a place for the command
 abbrev is_placed : Placing → Bool
 is_placed (Placed slot) = true
@@ -204,6 +173,9 @@ module _ {D C : Type 0} (tells : Type 0) (content : D → List ℕ) (may_leave :
     pub met : (node : ℕ) → node < 5 → is_up (at now.nodes node) ≡ true →
         HasRisenBy (lacks tallies node) (troubles old.courier node) (troubles now.courier node)
     pub promised : promised_count (kept (at old.nodes endpoint)) + length tallies ≤ promised_count (kept (at now.nodes endpoint))
+    pub own_promised : own_promised_count endpoint (kept (at old.nodes endpoint)) + length tallies
+        ≤ own_promised_count endpoint (kept (at now.nodes endpoint))
+    pub made : AttemptsGoOn faults stops_in is_tame troubles is_silent counts endpoint c old now tallies
     pub few : MeetAtMost troubles old.courier now.courier (λ peer. lacks tallies peer + closed_since old now endpoint)
     pub lists : (peer : ℕ) → peer < 5 → IsSilentPeer is_silent old.courier endpoint peer → kept (at now.nodes peer) ≡ kept (at old.nodes peer)
     pub asks : AsksAtMost (counts old.courier) (counts now.courier) (asked_in (attempts old now endpoint tallies) old now endpoint)
@@ -222,6 +194,8 @@ module _ {D C : Type 0} (tells : Type 0) (content : D → List ℕ) (may_leave :
     in_turn = λ i j d lt within. absurd (omega arith);
     met = λ node lt is. risen_by_none (troubles old.courier node);
     promised = omega arith;
+    own_promised = omega arith;
+    made = no_attempt;
     few = λ peer lt. omega arith;
     lists = λ peer lt silent. refl;
     asks = asks_none (counts old.courier) (asked_in (attempts old old endpoint []) old old endpoint);
@@ -350,8 +324,15 @@ module _ {D C : Type 0} (tells : Type 0) (content : D → List ℕ) (may_leave :
         ))
         cause
 
+    -- this attempt, as one of those of the call
+    abbrev IsThis : Attempt → Type 0
+    IsThis = IsAttempt faults stops_in is_tame troubles is_silent counts now new endpoint c
+
     -- all that became of attempts that end with this one
     module _ (room : length tallies < 8) where
+      ends_with : (last : Attempt) → IsThis last → EndsWith faults stops_in is_tame troubles is_silent counts old new endpoint c last
+      ends_with last attempt = record { between = now; tallies = tallies; before = going.made; few = room; last = attempt }
+
       attempts_less : attempts old now endpoint tallies < most_attempts old new endpoint
       attempts_less = let a = comes in omega (arith, room, a)
 
@@ -359,23 +340,25 @@ module _ {D C : Type 0} (tells : Type 0) (content : D → List ℕ) (may_leave :
       Done = Attempted tells content may_leave faults stops_in is_tame troubles is_silent counts old new endpoint c
 
       done : (placing : Placing) → EndsAttempts faults troubles old new endpoint c placing
+          → MadeInTurn faults stops_in is_tame troubles is_silent counts old new endpoint c placing
           → (ByThree (IsAbsentPeer is_silent old endpoint) → (slot : ℕ) → placing ≢ Placed slot)
           → MeetInTurn troubles old new endpoint placing → Done placing
-      done placing ends not_placed met = record {
+      done placing ends made not_placed met = record {
         in_order = order;
         go_on = on_then;
         ends = ends;
+        made = made;
         silent = record { lists = lists_then; not_placed = not_placed };
         asked = asks_upto (most_attempts old new endpoint) attempts_less;
         bounds = gives_upto (most_attempts old new endpoint) attempts_less;
         met = met;
       }
 
-      placed_done : (slot : ℕ) → ((js : Journals) → IsChoice old.nodes js → HasNoVoteOf js c.id)
+      placed_done : (slot : ℕ) → IsThis (one.Placed slot) → ((js : Journals) → IsChoice old.nodes js → HasNoVoteOf js c.id)
           → EndsAttempt faults troubles now new endpoint c (one.Placed slot)
           → ((peer : ℕ) → peer < 5 → HasRisenOnce (troubles now.courier peer) (troubles new.courier peer)) → Done (Placed slot)
-      placed_done slot new_id (is, one_more, settled) once =
-          done (Placed slot) (settled, one_more)
+      placed_done slot attempt new_id (is, one_more, settled) once =
+          done (Placed slot) (settled, one_more) (ends_with (one.Placed slot) attempt)
           (λ absent place same. absurd (unsettled slot new_id settled absent))
           (λ peer small.
           let a = few_then once peer small in
@@ -383,17 +366,23 @@ module _ {D C : Type 0} (tells : Type 0) (content : D → List ℕ) (may_leave :
           let d = comes in
           omega (arith, a, b, d, room))
 
-      down_done : (node : ℕ) → EndsAttempt faults troubles now new endpoint c (one.NodeDown node) → Done (NodeDown node)
-      down_done node (is, down) = done (NodeDown node) (is, down_then down) (λ absent place same. absurd (true≢false (sym (ap is_placed same)))) tt
+      down_done : (node : ℕ) → IsThis (one.NodeDown node) → EndsAttempt faults troubles now new endpoint c (one.NodeDown node)
+          → Done (NodeDown node)
+      down_done node attempt (is, down) =
+          done (NodeDown node) (is, down_then down) (ends_with (one.NodeDown node) attempt)
+          (λ absent place same. absurd (true≢false (sym (ap is_placed same)))) tt
 
-      memory_done : EndsAttempt faults troubles now new endpoint c one.Memory → Done Memory
-      memory_done (was, still) = done Memory (going.was_up, still) (λ absent place same. absurd (true≢false (sym (ap is_placed same)))) tt
+      memory_done : IsThis one.Memory → EndsAttempt faults troubles now new endpoint c one.Memory → Done Memory
+      memory_done attempt (was, still) =
+          done Memory (going.was_up, still) (ends_with one.Memory attempt)
+          (λ absent place same. absurd (true≢false (sym (ap is_placed same)))) tt
 
-      full_done : (most : ℕ) → EndsAttempt faults troubles now new endpoint c (one.ListFull most) → MayBeAttempted new.nodes endpoint c
-          → Done (ListFull most)
-      full_done most (slots, full, same) may =
+      full_done : (most : ℕ) → IsThis (one.ListFull most) → EndsAttempt faults troubles now new endpoint c (one.ListFull most)
+          → MayBeAttempted new.nodes endpoint c → Done (ListFull most)
+      full_done most attempt (slots, full, same) may =
           let P : Cluster D C → Type 0 = λ cluster. (most ≡ slots_in (at cluster.nodes endpoint)) × (most ≡ closed_len (kept (at cluster.nodes endpoint))) in
-          done (ListFull most) (subst P (sym same) (slots, full), may.unapplied) (λ absent place is. absurd (true≢false (sym (ap is_placed is))))
+          done (ListFull most) (subst P (sym same) (slots, full), may.unapplied) (ends_with (one.ListFull most) attempt)
+          (λ absent place is. absurd (true≢false (sym (ap is_placed is))))
           (λ peer small.
           let a = going.few peer small in
           let b = few_lacks tallies peer in
@@ -403,9 +392,10 @@ module _ {D C : Type 0} (tells : Type 0) (content : D → List ℕ) (may_leave :
 
     -- ---- attempts that go on behind this one
 
-    other_on : (slot : ℕ) → EndsAttempt faults troubles now new endpoint c (one.Other slot) → MayBeAttempted new.nodes endpoint c
+    other_on : (slot : ℕ) → IsThis (one.Other slot) → EndsAttempt faults troubles now new endpoint c (one.Other slot)
+        → MayBeAttempted new.nodes endpoint c
         → ((peer : ℕ) → peer < 5 → HasRisenOnce (troubles now.courier peer) (troubles new.courier peer)) → AreGoingOn old new endpoint c tallies
-    other_on slot (is, one_more, (other, differs, settled)) may once =
+    other_on slot attempt (is, one_more, (other, differs, settled)) may once =
         let a = came in
         let k : attempts old new endpoint tallies ≡ attempts old now endpoint tallies + 1 = omega (arith, is, one_more, a) in
         record {
@@ -419,9 +409,15 @@ module _ {D C : Type 0} (tells : Type 0) (content : D → List ℕ) (may_leave :
           met = met_still;
           promised =
               let more = (ended.on.nodes.each endpoint lt).entries in
-              let stay = promises_stay (kept (at now.nodes endpoint)) (kept (at new.nodes endpoint)) more.0 more.1 in
+              let stay = counts_stay is_promised (kept (at now.nodes endpoint)) (kept (at new.nodes endpoint)) more.0 more.1 in
               let p = going.promised in
               omega (arith, stay, p);
+          own_promised =
+              let more = (ended.on.nodes.each endpoint lt).entries in
+              let stay = counts_stay (is_own_promise endpoint) (kept (at now.nodes endpoint)) (kept (at new.nodes endpoint)) more.0 more.1 in
+              let p = going.own_promised in
+              omega (arith, stay, p);
+          made = another_command going.made attempt;
           few = λ peer small.
               let f = few_then once peer small in
               omega (arith, f, is, one_more, a);
@@ -430,10 +426,20 @@ module _ {D C : Type 0} (tells : Type 0) (content : D → List ℕ) (may_leave :
           gives = gives_upto (attempts old new endpoint tallies) (omega (arith, k));
         }
 
-    disturbed_on : (tally : Tally) (later : List Tally) → later ≡ tallies ++ tally ∷ []
+    -- a disturbed one gave a promise of each kind that has all in ballots of the endpoint's own
+    promises_rise : (counted : Record → Bool) (slot : ℕ) → ((ballot : ℕ) → ballot % 5 ≡ endpoint → counted (Promised slot ballot) ≡ true)
+        → HasNewPromise now.nodes new.nodes endpoint slot
+        → count_by counted (kept (at now.nodes endpoint)) + 1 ≤ count_by counted (kept (at new.nodes endpoint))
+    promises_rise counted slot is_counted (ballot, own, above, there) =
+        let more = (ended.on.nodes.each endpoint lt).entries in
+        let js : Journals = kept_of now.nodes in
+        counts_more counted (promises_of js) (kept (at now.nodes endpoint)) (kept (at new.nodes endpoint)) more.0 slot ballot (is_counted ballot own)
+        ((facts_of js (going.in_order.nodes.sound js (kept_are_chosen now.nodes))).formed endpoint lt) more.1 above there
+
+    disturbed_on : (tally : Tally) (later : List Tally) → IsThis (one.Disturbed tally) → later ≡ tallies ++ tally ∷ []
         → EndsAttempt faults troubles now new endpoint c (one.Disturbed tally) → MayBeAttempted new.nodes endpoint c
         → ((peer : ℕ) → peer < 5 → HasRisenOnce (troubles now.courier peer) (troubles new.courier peer)) → AreGoingOn old new endpoint c later
-    disturbed_on tally later more (tallied, as_long, promised) may once =
+    disturbed_on tally later attempt more (tallied, as_long, promised) may once =
         let a = came in
         let slot : tally.slot ≡ so_far = tallied.slot in
         let longer : length (tallies ++ tally ∷ []) ≡ length tallies + 1 = length_push tallies tally in
@@ -469,14 +475,14 @@ module _ {D C : Type 0} (tells : Type 0) (content : D → List ℕ) (may_leave :
               (going.met node small was) risen))
               (cases_Bool (has_digit tally.clear node));
           promised =
-              let more = (ended.on.nodes.each endpoint lt).entries in
-              let js : Journals = kept_of now.nodes in
-              let (ballot, own, above, there) = promised in
-              let rises =
-              promises_more (promises_of js) (kept (at now.nodes endpoint)) (kept (at new.nodes endpoint)) more.0 tally.slot ballot
-              ((facts_of js (going.in_order.nodes.sound js (kept_are_chosen now.nodes))).formed endpoint lt) more.1 above there in
+              let rises = promises_rise is_promised tally.slot (λ ballot own. promise_is_promised tally.slot ballot) promised in
               let p = going.promised in
               omega (arith, rises, p, longer);
+          own_promised =
+              let rises = promises_rise (is_own_promise endpoint) tally.slot (promise_is_own endpoint tally.slot) promised in
+              let p = going.own_promised in
+              omega (arith, rises, p, longer);
+          made = disturbed going.made attempt;
           few = λ peer small.
               ⊎_elim
               (λ set.
@@ -503,7 +509,8 @@ module _ {D C : Type 0} (tells : Type 0) (content : D → List ℕ) (may_leave :
   attempts_end old now new endpoint c tallies later (one.Placed slot) lt going room new_id order ended gave result placing is noted =
       subst (Attempted tells content may_leave faults stops_in is_tame troubles is_silent counts old new endpoint c)
       (same_Some (Placed slot) placing (sym noted ∙ is))
-      (placed_done old now new endpoint c tallies (one.Placed slot) lt going order ended gave room slot new_id ended.ends ended.once)
+      (placed_done old now new endpoint c tallies (one.Placed slot) lt going order ended gave room slot
+      (record { became = ended; bounds = gave }) new_id ended.ends ended.once)
   attempts_end old now new endpoint c tallies later (one.Other slot) lt going room new_id order ended gave result placing is noted =
       absurd (none-some placing (sym noted.0 ∙ is))
   attempts_end old now new endpoint c tallies later (one.Disturbed tally) lt going room new_id order ended gave result placing is noted =
@@ -511,16 +518,19 @@ module _ {D C : Type 0} (tells : Type 0) (content : D → List ℕ) (may_leave :
   attempts_end old now new endpoint c tallies later (one.NodeDown node) lt going room new_id order ended gave result placing is noted =
       subst (Attempted tells content may_leave faults stops_in is_tame troubles is_silent counts old new endpoint c)
       (same_Some (NodeDown node) placing (sym noted ∙ is))
-      (down_done old now new endpoint c tallies (one.NodeDown node) lt going order ended gave room node ended.ends)
+      (down_done old now new endpoint c tallies (one.NodeDown node) lt going order ended gave room node
+      (record { became = ended; bounds = gave }) ended.ends)
   attempts_end old now new endpoint c tallies later (one.ListFull most) lt going room new_id order ended gave result placing is noted =
       subst (Attempted tells content may_leave faults stops_in is_tame troubles is_silent counts old new endpoint c)
       (same_Some (ListFull most) placing (sym noted ∙ is))
-      (full_done old now new endpoint c tallies (one.ListFull most) lt going order ended gave room most ended.ends
+      (full_done old now new endpoint c tallies (one.ListFull most) lt going order ended gave room most
+      (record { became = ended; bounds = gave }) ended.ends
       (may_then old now new endpoint c tallies (one.ListFull most) lt going order ended gave ended.ends))
   attempts_end old now new endpoint c tallies later one.Memory lt going room new_id order ended gave result placing is noted =
       subst (Attempted tells content may_leave faults stops_in is_tame troubles is_silent counts old new endpoint c)
       (same_Some Memory placing (sym noted ∙ is))
-      (memory_done old now new endpoint c tallies one.Memory lt going order ended gave room ended.ends)
+      (memory_done old now new endpoint c tallies one.Memory lt going order ended gave room
+      (record { became = ended; bounds = gave }) ended.ends)
 
   -- and where it doesn't, they go on, with one tally or one closed slot more
   pub attempts_go_on : (old now new : Cluster D C) (endpoint : ℕ) (c : Command) (tallies later : List Tally) (end : Attempt) → endpoint < 5
@@ -537,7 +547,8 @@ module _ {D C : Type 0} (tells : Type 0) (content : D → List ℕ) (may_leave :
       let b = e.1 in
       let l = ap length noted.1 in (
         subst (AreGoingOn old new endpoint c) (sym noted.1)
-            (other_on old now new endpoint c tallies (one.Other slot) lt going order ended gave slot ended.ends
+            (other_on old now new endpoint c tallies (one.Other slot) lt going order ended gave slot
+            (record { became = ended; bounds = gave }) ended.ends
             (may_then old now new endpoint c tallies (one.Other slot) lt going order ended gave ended.ends) ended.once),
         omega (arith, a, b, l),
       )
@@ -546,7 +557,8 @@ module _ {D C : Type 0} (tells : Type 0) (content : D → List ℕ) (may_leave :
       let b = e.1 in
       let l = ap length noted.1 in
       let m = length_push tallies tally in (
-        disturbed_on old now new endpoint c tallies (one.Disturbed tally) lt going order ended gave tally later noted.1 ended.ends
+        disturbed_on old now new endpoint c tallies (one.Disturbed tally) lt going order ended gave tally later
+            (record { became = ended; bounds = gave }) noted.1 ended.ends
             (may_then old now new endpoint c tallies (one.Disturbed tally) lt going order ended gave ended.ends) ended.once,
         omega (arith, b, l, m),
       )
@@ -574,7 +586,9 @@ module _ {D C : Type 0} (tells : Type 0) (content : D → List ℕ) (may_leave :
           still_up = going.up;
           met = going.met;
           promised = let p = going.promised in omega (arith, p, eight);
+          own_promised = let p = going.own_promised in omega (arith, p, eight);
         };
+        made = going.made;
         silent = record {
           lists = going.lists;
           not_placed = λ absent slot same. absurd (true≢false (sym (ap is_placed same)));

@@ -14,7 +14,8 @@ use Rattle.arc_engine.specs.declared.call_end.CallEnd.TheVariants as ends
 use Rattle.arc_engine.specs.declared.calling.Placing.{Placing}
 use Rattle.arc_engine.specs.declared.calling.Placing.TheVariants.{Placed, Disturbed, NodeDown, ListFull, Memory}
 
--- A state can be brought up to this slot of a list: it is behind the list, and has done nothing from the slot on.
+-- A state can be brought up to this slot of a list: the list has it, and the state is behind the list and has done nothing from the
+-- slot on.
 pub record CanDo (list : List Command) (slot : ℕ) (state : Parts) : Type 0 where
   pub behind : IsBehind state list
   pub before : count_of state ≤ slot

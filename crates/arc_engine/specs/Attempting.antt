@@ -14,6 +14,7 @@ use Rattle.arc_node.specs.Node.{is_up, kept}
 use Rattle.arc_voting.specs.Journals.{ByThree}
 use Rattle.arc_voting.specs.Lists.{applied}
 use Rattle.arc_engine.specs.Calls.{AreTallied, IsFullAt, lacks, most_asked, most_attempts}
+use Rattle.arc_engine.specs.Chain.{AttemptsGoOn, EndsWith}
 use Rattle.arc_engine.specs.declared.calling.Placing.{Placing}
 use Rattle.arc_engine.specs.declared.calling.Placing.TheVariants.{Placed, Disturbed, NodeDown, ListFull, Memory}
 
@@ -49,6 +50,20 @@ MeetInTurn troubles old new endpoint (NodeDown node) = ⊤
 MeetInTurn troubles old new endpoint (ListFull length) = MeetAtMost troubles old.courier new.courier (λ peer. most_attempts old new endpoint)
 MeetInTurn troubles old new endpoint Memory = ⊤
 
+-- The attempts that were made of a command at an endpoint, by how they ended.
+abbrev pub MadeInTurn : {D C : Type 0} (faults : D → ℕ) (stops_in : D → Option ℕ) (is_tame : D → Type 0) (troubles : C → ℕ → ℕ)
+    → (is_silent : C → ℕ → Type 0) (counts : C → Option (ℕ → ℕ)) → Cluster D C → Cluster D C → ℕ → Command → Placing → Type 0
+MadeInTurn faults stops_in is_tame troubles is_silent counts old new endpoint c (Placed slot) =
+    EndsWith faults stops_in is_tame troubles is_silent counts old new endpoint c (one.Placed slot)
+MadeInTurn faults stops_in is_tame troubles is_silent counts old new endpoint c (Disturbed tallies) =
+    AttemptsGoOn faults stops_in is_tame troubles is_silent counts endpoint c old new tallies
+MadeInTurn faults stops_in is_tame troubles is_silent counts old new endpoint c (NodeDown node) =
+    EndsWith faults stops_in is_tame troubles is_silent counts old new endpoint c (one.NodeDown node)
+MadeInTurn faults stops_in is_tame troubles is_silent counts old new endpoint c (ListFull length) =
+    EndsWith faults stops_in is_tame troubles is_silent counts old new endpoint c (one.ListFull length)
+MadeInTurn faults stops_in is_tame troubles is_silent counts old new endpoint c Memory =
+    EndsWith faults stops_in is_tame troubles is_silent counts old new endpoint c one.Memory
+
 -- All that became of the attempts of a command at an endpoint. The meanings of couriers and disks are given: `counts` tells how
 -- often a courier was asked.
 pub record Attempted {D C : Type 0} (tells : Type 0) (content : D → List ℕ) (may_leave : D → List ℕ → Type 0) (faults : D → ℕ)
@@ -57,6 +72,7 @@ pub record Attempted {D C : Type 0} (tells : Type 0) (content : D → List ℕ) 
   pub in_order : five.IsInOrder tells content may_leave new
   pub go_on : ClusterGoesOn faults stops_in is_tame troubles is_silent (λ d. d ≡ c) old new
   pub ends : EndsAttempts faults troubles old new endpoint c result
+  pub made : MadeInTurn faults stops_in is_tame troubles is_silent counts old new endpoint c result
   pub silent : StaySilent is_silent old new endpoint result
   pub asked : AsksAtMost (counts old.courier) (counts new.courier) (most_asked old new endpoint)
   pub bounds : GivesAtMost (most_attempts old new endpoint) (2 * most_attempts old new endpoint) old.nodes new.nodes

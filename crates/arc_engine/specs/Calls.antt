@@ -22,7 +22,9 @@ use Rattle.arc_voting.specs.Journals.{ByThree, Journals, promised_count}
 use Rattle.arc_voting.specs.Lists.{applied}
 use Rattle.arc_engine.specs.declared.call_end.CallEnd.{CallEnd}
 use Rattle.arc_engine.specs.declared.call_end.CallEnd.TheVariants.{Answered, Unavailable, NodeDown, ListFull, Memory}
+use Rattle.arc_engine.specs.declared.call_end.TheConstants.{MOST_DISTURBED}
 use Rattle.arc_engine.specs.declared.engine.Engine.{Engine}
+use Rattle.arc_engine.specs.Chain.{MadeAttempts, own_promised_count}
 use Rattle.arc_engine.specs.Engine.{list_of}
 
 -- The command of a call that has this id.
@@ -44,8 +46,7 @@ pub record IsOfCall {D C : Type 0} (old : Engine D C) (endpoint at_ms token : �
   pub next : IsNextId (at old.cluster.nodes endpoint) c.id
   pub new_id : IsNewId old c.id
 
--- The list has grown by commands at its end: each is that of the call, or had a vote at entry. Those that have the call's id are
--- one at most.
+-- The list has grown by commands at its end: each is that of the call, or had a vote at entry, and no two of them have one id.
 pub record ListGrows {D C : Type 0} (old new : Engine D C) (c : Command) : Type 0 where
   pub more : List Command
   pub longer : list_of new ≡ list_of old ++ more
@@ -84,17 +85,20 @@ pub record IsTallyOf (endpoint from to : ℕ) (tally : Tally) : Type 0 where
   pub few : ¬ ByThree (λ node. has_digit tally.clear node ≡ true)
   pub five : tally.clear < 32
 
--- Eight attempts were disturbed: there are eight tallies, whose slots never fall. A node that is up at exit met at least as many
--- troubles as tallies lack it, and the endpoint gave at least eight promises.
+-- What eight tallies tell of a call: their slots never fall, and lie between the endpoint's lengths at entry and at exit. A node that
+-- is up at exit met at least as many troubles as tallies lack it, up to 2^64 - 1 in all. The endpoint gave at least eight promises in
+-- ballots of its own.
 pub record AreTallied {D C : Type 0} (troubles : C → ℕ → ℕ) (old new : Cluster D C) (endpoint : ℕ) (tallies : List Tally) : Type 0 where
-  pub eight : length tallies ≡ 8
+  pub eight : length tallies ≡ MOST_DISTURBED
   pub each : All (IsTallyOf endpoint (closed_len (kept (at old.nodes endpoint))) (closed_len (kept (at new.nodes endpoint)))) tallies
   pub in_turn : AllPairs (λ former later. former.slot ≤ later.slot) tallies
   pub was_up : is_up (at old.nodes endpoint) ≡ true
   pub still_up : is_up (at new.nodes endpoint) ≡ true
   pub met : (node : ℕ) → node < 5 → is_up (at new.nodes node) ≡ true →
       HasRisenBy (lacks tallies node) (troubles old.courier node) (troubles new.courier node)
-  pub promised : promised_count (kept (at old.nodes endpoint)) + 8 ≤ promised_count (kept (at new.nodes endpoint))
+  pub promised : promised_count (kept (at old.nodes endpoint)) + MOST_DISTURBED ≤ promised_count (kept (at new.nodes endpoint))
+  pub own_promised : own_promised_count endpoint (kept (at old.nodes endpoint)) + MOST_DISTURBED
+      ≤ own_promised_count endpoint (kept (at new.nodes endpoint))
 
 -- ---- how calls end
 
@@ -123,15 +127,18 @@ IsIdle old new endpoint =
     (is_up (at old.cluster.nodes endpoint) ≡ false)
     ⊎ (closed_len (kept (at old.cluster.nodes endpoint)) ≡ slots_in (at old.cluster.nodes endpoint)) → new ≡ old
 
--- What a call made of an engine: there is a command, that of the call where the endpoint is up, that alone may have begun in it, and
--- the call ended as its answer says. At an endpoint that is down or whose list is full, nothing was done with it.
+-- What a call made of an engine: there is a command, that of the call where the endpoint is up, that alone may have begun in it. It
+-- was attempted, attempt by attempt, and the call ended as its answer says. At an endpoint that is down or whose list is full, nothing
+-- was done with it.
 pub record EndsCallOf {D C : Type 0} (faults : D → ℕ) (stops_in : D → Option ℕ) (is_tame : D → Type 0) (troubles : C → ℕ → ℕ)
-    (is_silent : C → ℕ → Type 0) (old new : Engine D C) (endpoint at_ms token : ℕ) (op : Op) (result : CallEnd) : Type 0 where
+    (is_silent : C → ℕ → Type 0) (counts : C → Option (ℕ → ℕ)) (old new : Engine D C) (endpoint at_ms token : ℕ) (op : Op)
+    (result : CallEnd) : Type 0 where
   pub c : Command
   pub is_of_call : is_up (at old.cluster.nodes endpoint) ≡ true → IsOfCall old endpoint at_ms token op c
   pub go_on : ClusterGoesOn faults stops_in is_tame troubles is_silent (λ d. d ≡ c) old.cluster new.cluster
   pub idle : IsIdle old new endpoint
   pub grows : ListGrows old new c
+  pub attempts : MadeAttempts faults stops_in is_tame troubles is_silent counts old.cluster new.cluster endpoint c result
   pub ends : EndsCall faults troubles old new endpoint c result
 
 -- A call at a list that is full ends so, on a node that is down too.
@@ -156,7 +163,7 @@ pub record StaysSilent {D C : Type 0} (is_silent : C → ℕ → Type 0) (old ne
 
 -- How many attempts a call makes at most: eight, and one more for each command that the endpoint closed.
 abbrev pub most_attempts : {D C : Type 0} → Cluster D C → Cluster D C → ℕ → ℕ
-most_attempts old new endpoint = 8 + (closed_len (kept (at new.nodes endpoint)) - closed_len (kept (at old.nodes endpoint)))
+most_attempts old new endpoint = MOST_DISTURBED + (closed_len (kept (at new.nodes endpoint)) - closed_len (kept (at old.nodes endpoint)))
 
 -- How often a peer's fate is asked in a call at most: in each attempt once in each of four exchanges, and once for each sixteen
 -- commands of those that the peer lacked at entry of what the endpoint has closed at exit. No other node's is asked.

@@ -1,5 +1,5 @@
 -- Calls over a courier that lets each exchange happen.
-use Rattle.std.specs.Prelude.{ℕ, ◌≡◌, ◌≢◌, ◌<◌, ⊤, true, Option, length}
+use Rattle.std.specs.Prelude.{ℕ, ◌≡◌, ◌≢◌, ◌<◌, ⊤, true, Option, None, length}
 use Rattle.arc_bytes.specs.Five.{at}
 use Rattle.arc_cluster.specs.Since.{IsQuiet}
 use Rattle.arc_courier.specs.declared.direct.Direct.{Direct}
@@ -12,7 +12,7 @@ use Rattle.arc_engine.specs.declared.call_end.CallEnd.{CallEnd}
 use Rattle.arc_engine.specs.declared.call_end.CallEnd.TheVariants.{Answered, Unavailable, NodeDown, ListFull, Memory}
 use Rattle.arc_engine.specs.declared.engine.Engine.{Engine}
 
--- A node is up, over a disk that fails only where it is told to stop, and isn't told so.
+-- A node is up, over a disk that fails only where it is told to stop, and isn't told so. Its count of faults can rise still.
 abbrev pub IsWell : {D : Type 0} (faults : D → ℕ) (stops_in : D → Option ℕ) (is_tame : D → Type 0) → Node D → Type 0
 IsWell faults stops_in is_tame node = (is_up node ≡ true) × IsQuiet faults stops_in is_tame (disk_in node)
 
@@ -36,5 +36,5 @@ DirectCallsAreNotRefused {D} faults stops_in is_tame =
     IsWell faults stops_in is_tame (at old.cluster.nodes endpoint) →
     ByThree (λ node. IsWell faults stops_in is_tame (at old.cluster.nodes node)) →
     ((node : ℕ) → node < 5 → HasRoom (at new.cluster.nodes node)) →
-    EndsCallOf faults stops_in is_tame (λ courier peer. 0) (λ courier peer. ⊥) old new endpoint at_ms token op result →
+    EndsCallOf faults stops_in is_tame (λ courier peer. 0) (λ courier peer. ⊥) (λ courier. None) old new endpoint at_ms token op result →
     IsNotRefused result

@@ -1,4 +1,5 @@
 pub mod Engine
+pub mod Chain
 pub mod Calls
 pub mod CatchingUp
 pub mod Attempting

@@ -6,19 +6,18 @@ ghost use Rattle.arc_cluster.specs.Nodes.{IsChoice};
 ghost use Rattle.arc_cluster.specs.Phases.{MayBeAttempted};
 ghost use Rattle.arc_data.specs.Valid.{IsValidCommand};
 ghost use Rattle.arc_engine.specs.Attempting.{Attempted, Notes};
+ghost use Rattle.arc_engine.specs.declared.call_end.TheConstants.{MOST_DISTURBED};
 ghost use Rattle.arc_node.specs.Node.{is_up};
 ghost use Rattle.arc_voting.specs.Ids.{HasNoVoteOf};
 ghost use Rattle.arc_voting.specs.Journals.{Journals};
 
+use crate::call_end::MOST_DISTURBED;
 use crate::calling::Placing;
 use arc_cluster::{Attempt, Cluster, Tally};
 use arc_courier::Courier;
 use arc_data::Command;
 use arc_disk::Disk;
 use std::alloc::Global;
-
-/// How many attempts of a call may be disturbed: the last of them ends it.
-const MOST_DISTURBED: usize = 8;
 
 /// Attempts a command until an attempt places it, eight were disturbed, or one ends the call otherwise. An attempt that closed
 /// its slot with another command is no disturbance: the next one works at the slot behind.
@@ -37,7 +36,7 @@ pub(crate) fn attempt_all<D: Disk, C: Courier + Drop>(
     ensures { Attempted D.tells D.content D.may_leave D.faults D.stops_in D.is_tame C.troubles C.is_silent C.asked
         cluster.old cluster.new node c.now result }
 {
-    let mut tallies = [Tally { slot: 0, clear: 0 }; 8];
+    let mut tallies = [Tally { slot: 0, clear: 0 }; MOST_DISTURBED];
     let mut disturbed: usize = 0;
     while disturbed < MOST_DISTURBED {
         let end = cluster.attempt(alloc, node, c);
@@ -51,9 +50,13 @@ pub(crate) fn attempt_all<D: Disk, C: Courier + Drop>(
 
 /// Notes how an attempt ended: the tally of one that was disturbed is kept. Gives how the attempts of the call end, where this
 /// one ends them.
-fn note(end: Attempt, tallies: &mut [Tally; 8], disturbed: &mut usize) -> Option<Placing>
-    requires few { disturbed.old < 8 }
-    ensures few { disturbed.new ≤ 8 }
+fn note(
+    end: Attempt,
+    tallies: &mut [Tally; MOST_DISTURBED],
+    disturbed: &mut usize,
+) -> Option<Placing>
+    requires few { disturbed.old < MOST_DISTURBED }
+    ensures few { disturbed.new ≤ MOST_DISTURBED }
     ensures noted { Notes end (take disturbed.old tallies.old) (take disturbed.new tallies.new) result }
 {
     match end {

@@ -8,6 +8,7 @@ ghost use Rattle.arc_data.specs.Valid.{IsValid, IsValidCommand};
 ghost use Rattle.arc_data.specs.declared.command.TheConstants.{MAX_MS};
 ghost use Rattle.arc_engine.specs.Answering.{Answers, CanAnswer};
 ghost use Rattle.arc_engine.specs.Calls.{EndsCall, EndsCallOf, EndsFull, ListGrows, StaysSilent, most_asked, most_attempts, of_call};
+ghost use Rattle.arc_engine.specs.Chain.{MadeAttempts};
 ghost use Rattle.arc_engine.specs.Engine.{IsInOrder};
 ghost use Rattle.arc_engine.specs.Meeting.{MeetInCall};
 ghost use Rattle.arc_node.specs.Node.{HasLimits, is_up};
@@ -15,7 +16,7 @@ ghost use Rattle.arc_state.specs.State.{count_of};
 
 use crate::attempting::attempt_all;
 use crate::catching_up::do_up_to;
-use crate::{CallEnd, Engine};
+use crate::{CallEnd, Engine, MOST_DISTURBED};
 use arc_bytes::Memory;
 use arc_cluster::Tally;
 use arc_courier::Courier;
@@ -31,7 +32,7 @@ pub(crate) enum Placing {
     /// The command has this slot.
     Placed { slot: u32 },
     /// Eight attempts were disturbed.
-    Disturbed { tallies: [Tally; 8] },
+    Disturbed { tallies: [Tally; MOST_DISTURBED] },
     /// The endpoint's node isn't up.
     NodeDown { node: u8 },
     /// The endpoint's list is full.
@@ -49,7 +50,8 @@ impl<D: Disk, C: Courier + Drop> Engine<D, C> {
         requires in_time { at_ms ≤ MAX_MS }
         requires in_order { IsInOrder D.tells D.content D.may_leave self.old }
         ensures in_order { IsInOrder D.tells D.content D.may_leave self.new }
-        ensures ends { EndsCallOf D.faults D.stops_in D.is_tame C.troubles C.is_silent self.old self.new node at_ms token op.now result }
+        ensures ends { EndsCallOf D.faults D.stops_in D.is_tame C.troubles C.is_silent C.asked
+            self.old self.new node at_ms token op.now result }
         ensures more { count_of self.old.state ≤ count_of self.new.state }
         ensures full { EndsFull self.old node result }
         ensures silent { StaysSilent C.is_silent self.old self.new node result }
@@ -86,6 +88,8 @@ impl<D: Disk, C: Courier + Drop> Engine<D, C> {
         ensures go_on { ClusterGoesOn D.faults D.stops_in D.is_tame C.troubles C.is_silent (λ d. d ≡ c.now)
             self.old.cluster self.new.cluster }
         ensures grows { ListGrows self.old self.new c.now }
+        ensures attempts { MadeAttempts D.faults D.stops_in D.is_tame C.troubles C.is_silent C.asked
+            self.old.cluster self.new.cluster node c.now result }
         ensures more { count_of self.old.state ≤ count_of self.new.state }
         ensures ends { EndsCall D.faults C.troubles self.old self.new node c.now result }
         ensures silent { StaysSilent C.is_silent self.old self.new node result }

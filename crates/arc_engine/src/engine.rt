@@ -82,7 +82,7 @@ impl<D: Disk, C: Courier + Drop> Engine<D, C> {
         requires of_five { node < 5 }
         requires in_order { IsInOrder D.tells D.content D.may_leave self.old }
         ensures in_order { IsInOrder D.tells D.content D.may_leave self.new }
-        ensures others { KeepAllLists self.old.cluster.nodes self.new.cluster.nodes node }
+        ensures lists { KeepAllLists self.old.cluster.nodes self.new.cluster.nodes node }
         ensures list { list_of self.new ≡ list_of self.old }
         ensures not_up { is_up (at self.new.cluster.nodes node) ≡ false }
         ensures crashed { D.crashed (disk_in (at self.old.cluster.nodes node)) (disk_in (at self.new.cluster.nodes node)) }
@@ -107,7 +107,7 @@ impl<D: Disk, C: Courier + Drop> Engine<D, C> {
         requires of_five { node < 5 }
         requires in_order { IsInOrder D.tells D.content D.may_leave self.old }
         ensures in_order { IsInOrder D.tells D.content D.may_leave self.new }
-        ensures others { KeepAllLists self.old.cluster.nodes self.new.cluster.nodes node }
+        ensures lists { KeepAllLists self.old.cluster.nodes self.new.cluster.nodes node }
         ensures list { list_of self.new ≡ list_of self.old }
         ensures standing { (at self.new.cluster.nodes node).standing ≡ (at self.old.cluster.nodes node).standing }
         ensures armed { D.armed (disk_in (at self.old.cluster.nodes node)) calls fill (disk_in (at self.new.cluster.nodes node)) }

@@ -5,8 +5,8 @@
 //! its tally has the digits of those that did. What a caller may rely on, by what a call answers:
 //!
 //! - `Unavailable { tallies }`: eight attempts were disturbed, and nobody knows yet what becomes of the command. It may be
-//!   finished later by another call, once, under its own identifier; a retry is a second command. A node that is up at the end
-//!   and that x of the tallies lack met trouble at least x times in the call.
+//!   finished later by another call, once, under its own identifier; a retry is a second command. The tallies are those of
+//!   its attempts, in order. A node that is up at the end and that x of them lack met trouble at least x times in the call.
 //! - `Answered { slot, reply, token }`: the command stands at `slot`, behind all that stood in the list before the call; `reply`
 //!   is what one cluster that never fails answers after the commands before it, and `token` is `slot + 1`.
 //! - `NodeDown { node }`: the endpoint's node isn't up. It wasn't before, and then no command was drawn; or its disk failed or
@@ -31,6 +31,6 @@ mod engine;
 mod laws;
 mod starting;
 
-pub use call_end::CallEnd;
+pub use call_end::{CallEnd, MOST_DISTURBED};
 pub use engine::Engine;
 pub use laws::direct_calls_are_not_refused;

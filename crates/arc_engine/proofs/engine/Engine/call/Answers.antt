@@ -1,10 +1,9 @@
-use Rattle.std.proofs.Common.{◌≡◌, ⊎_elim, true, false, true≢false, inl, refl, sym, ◌∙◌, ap}
+use Rattle.std.proofs.Common.{◌≡◌, ⊎_elim, true, true≢false, sym, ◌∙◌, ap}
 use Rattle.arc_bytes.specs.Five.{at}
 use Rattle.arc_cluster.proofs.Placing.{next_ids_are_in_range}
 use Rattle.arc_data.specs.Entries.{closed_len}
 use Rattle.arc_node.specs.Node.{is_up, kept, slots_in}
-use Rattle.arc_engine.specs.declared.call_end.CallEnd.TheVariants.{ListFull, Memory, NodeDown}
-use Rattle.arc_engine.proofs.Drawn.{drawn_is_of_call, drawn_is_valid, idle_ends, told_is_next}
+use Rattle.arc_engine.proofs.Drawn.{down_ends, drawn_is_of_call, drawn_is_valid, full_ends, told_is_next, wanting_ends}
 use Rattle.arc_engine.proofs.engine.Engine.call.Goals as goal
 
 pub returns-then-length-max_slots-clause-ends : goal.returns-then-length-max_slots-clause-ends
@@ -13,29 +12,25 @@ returns-then-length-max_slots-clause-ends g c =
     let courier = g.C.Courier in
     let closed = c.applied_len-length.ensures ∙ ap (λ n. closed_len (kept n)) c.node-own.ensures in
     let most = c.if-length-max_slots.true ∙ c.max_slots.ensures ∙ ap slots_in c.node-own.ensures in
-    idle_ends disk.tells disk.content disk.may_leave disk.faults disk.stops_in disk.is_tame courier.troubles courier.is_silent c.args.self.now
-    c.args.node c.args.at_ms c.args.token c.args.op.now c.requires.in_order.cluster.nodes c.requires.of_five
-    (ListFull c.applied_len-length.result) (λ d. ((most, closed), λ room. absurd (room (sym closed ∙ most))))
+    full_ends disk.tells disk.content disk.may_leave disk.faults disk.stops_in disk.is_tame courier.troubles courier.is_silent courier.asked
+    c.args.self.now c.args.node c.args.at_ms c.args.token c.args.op.now c.requires.in_order.cluster.nodes c.requires.of_five
+    c.applied_len-length.result most closed
 
 pub returns-then-not-is_up-clause-ends : goal.returns-then-not-is_up-clause-ends
 returns-then-not-is_up-clause-ends g c =
     let disk = g.D.Disk in
     let courier = g.C.Courier in
-    let down : is_up (at c.args.self.now.cluster.nodes c.args.node) ≡ false =
-    ap is_up (sym c.node-own.ensures) ∙ sym c.is_up.ensures ∙ c.if-not-is_up.true in
-    idle_ends disk.tells disk.content disk.may_leave disk.faults disk.stops_in disk.is_tame courier.troubles courier.is_silent c.args.self.now
-    c.args.node c.args.at_ms c.args.token c.args.op.now c.requires.in_order.cluster.nodes c.requires.of_five
-    (NodeDown c.args.node) (λ d. (refl, (down, inl (down, refl))))
+    down_ends disk.tells disk.content disk.may_leave disk.faults disk.stops_in disk.is_tame courier.troubles courier.is_silent courier.asked
+    c.args.self.now c.args.node c.args.at_ms c.args.token c.args.op.now c.requires.in_order.cluster.nodes c.requires.of_five
+    (ap is_up (sym c.node-own.ensures) ∙ sym c.is_up.ensures ∙ c.if-not-is_up.true)
 
 pub returns-in_default-clause-ends : goal.returns-in_default-clause-ends
 returns-in_default-clause-ends g c =
     let disk = g.D.Disk in
     let courier = g.C.Courier in
-    let up : is_up (at c.args.self.now.cluster.nodes c.args.node) ≡ true =
-    ap is_up (sym c.node-own.ensures) ∙ sym c.is_up.ensures ∙ c.if-not-is_up.false in
-    idle_ends disk.tells disk.content disk.may_leave disk.faults disk.stops_in disk.is_tame courier.troubles courier.is_silent c.args.self.now
-    c.args.node c.args.at_ms c.args.token c.args.op.now c.requires.in_order.cluster.nodes c.requires.of_five
-    Memory (λ d. (up, up))
+    wanting_ends disk.tells disk.content disk.may_leave disk.faults disk.stops_in disk.is_tame courier.troubles courier.is_silent courier.asked
+    c.args.self.now c.args.node c.args.at_ms c.args.token c.args.op.now c.requires.in_order.cluster.nodes c.requires.of_five
+    (ap is_up (sym c.node-own.ensures) ∙ sym c.is_up.ensures ∙ c.if-not-is_up.false)
 
 pub call_up-end-requires-clause-valid : goal.call_up-end-requires-clause-valid
 call_up-end-requires-clause-valid g c =
@@ -68,5 +63,6 @@ returns-clause-ends g c =
           (c.applied_len-length.ensures ∙ ap (λ n. closed_len (kept n)) c.node-own.ensures ∙ full
           ∙ sym (c.max_slots.ensures ∙ ap slots_in c.node-own.ensures)))) still;
       grows = done.grows;
+      attempts = done.attempts;
       ends = done.ends;
     }

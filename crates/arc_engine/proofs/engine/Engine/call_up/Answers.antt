@@ -2,7 +2,7 @@ use Rattle.std.proofs.Common.{sym, subst}
 use Rattle.arc_cluster.proofs.Placing.{new_may_be_attempted}
 use Rattle.arc_engine.specs.Answering.{Answers, CanAnswer}
 use Rattle.arc_engine.proofs.Answered.{list_grew, next_id_is_new}
-use Rattle.arc_engine.proofs.Ends.{behind_then, call_ends, call_meets, can_answer, more_then}
+use Rattle.arc_engine.proofs.Ends.{behind_then, call_ends, call_made, call_meets, can_answer, more_then}
 use Rattle.arc_engine.proofs.engine.Engine.call_up.Goals as goal
 use Rattle.arc_node.specs.declared.node.Node.{Node}
 
@@ -93,3 +93,15 @@ returns-clause-troubles g c =
     subst (λ (node : Node g.row.D.Denot). Answers node old.state c.answer.new.state placing c.answer.result) c.node.ensures c.answer.ensures in
     call_meets g.C.Courier.troubles old.cluster c.attempt_all-placing.new.cluster c.args.node old.state c.answer.new.state placing c.answer.result
     c.attempt_all-placing.ensures.met answers
+
+pub returns-clause-attempts : goal.returns-clause-attempts
+returns-clause-attempts g c =
+    let disk = g.D.Disk in
+    let courier = g.C.Courier in
+    let old = c.args.self.now in
+    let placing = c.attempt_all-placing.result in
+    let answers =
+    subst (λ (node : Node g.row.D.Denot). Answers node old.state c.answer.new.state placing c.answer.result) c.node.ensures c.answer.ensures in
+    call_made disk.faults disk.stops_in disk.is_tame courier.troubles courier.is_silent courier.asked old.cluster
+    c.attempt_all-placing.new.cluster c.args.node c.args.c.now old.state c.answer.new.state placing c.answer.result
+    c.attempt_all-placing.ensures.made answers
