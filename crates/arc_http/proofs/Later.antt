@@ -16,7 +16,7 @@ use Rattle.std.proofs.lemmas.List.{take-append-le, drop-append-le}
 -- ---- fronts
 
 -- with later bytes the front goes on
-front_grows : (bytes more : List ℕ) → (x : List ℕ) × (front_of (bytes ++ more) ≡ front_of bytes ++ x)
+pub front_grows : (bytes more : List ℕ) → (x : List ℕ) × (front_of (bytes ++ more) ≡ front_of bytes ++ x)
 front_grows bytes more =
     let whole : front_of (bytes ++ more) ++ drop most_head (bytes ++ more) ≡ front_of bytes ++ (drop most_head bytes ++ more) =
     take-append-drop most_head (bytes ++ more)

@@ -4,3 +4,6 @@ pub mod Heads
 pub mod Parts
 pub mod Later
 pub mod Statuses
+pub mod Waiting
+pub mod HeadSizes
+pub mod Alone

@@ -1,8 +1,8 @@
 -- What later bytes change.
-use Rattle.std.specs.Prelude.{◌≡◌, ℕ, ◌++◌, ◌⊎◌, List, None, Ok, Err}
+use Rattle.std.specs.Prelude.{◌≡◌, ◌≤◌, ℕ, ◌++◌, ◌⊎◌, List, length, take, Some, None, Ok, Err}
 use Rattle.httparse.specs.Grammar.{NeverHasRequest, EndsInTarget}
 use Rattle.arc_http.specs.declared.end.HeadEnd.TheVariants.{BadHead, HeadTooLong}
-use Rattle.arc_http.specs.Reading.{Answer, front_of, most_head, IsReadAs}
+use Rattle.arc_http.specs.Reading.{Answer, Request, front_of, most_head, IsReadAs}
 
 -- nothing was read: more bytes are wanted, or the head is refused as such
 abbrev pub IsUnread : Answer → Type 0
@@ -28,3 +28,9 @@ abbrev pub KeepTheirAnswer : Type 0
 KeepTheirAnswer =
     (bytes more : List ℕ) (early late : Answer) → IsReadAs bytes early → IsReadAs (bytes ++ more) late
     → (early ≡ Ok None) ⊎ Agree (bytes ++ more) early late
+
+-- a request that is read at the front of the bytes so far is read from its own bytes too, with none behind them
+abbrev pub NeedItsBytesAlone : Type 0
+NeedItsBytesAlone =
+    (bytes : List ℕ) (request : Request) (size : ℕ) → IsReadAs bytes (Ok (Some (request, size)))
+    → (size ≤ length bytes) × IsReadAs (take size bytes) (Ok (Some (request, size)))

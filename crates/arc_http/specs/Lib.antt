@@ -4,3 +4,4 @@ pub mod Reading
 pub mod Seen
 pub mod Laws
 pub mod Response
+pub mod Sizes

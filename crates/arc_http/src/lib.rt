@@ -14,7 +14,8 @@
 //! was answered, but where they end inside a target (`later_bytes_change_nothing`).
 //!
 //! The caller hands in the bytes from the first one that no earlier request took, and hands them in again, with more,
-//! where nothing was answered. Reading takes no memory.
+//! where nothing was answered. Once a head is whole, `request_size` says how many bytes its request has: until they are there
+//! the request needn't be read again. Reading takes no memory.
 #![tactic(auto)]
 
 mod asked;
@@ -22,12 +23,16 @@ mod end;
 mod fields;
 mod laws;
 mod reading;
+mod sizes;
 mod target;
 mod view;
 mod writing;
 
 pub use end::HeadEnd;
-pub use laws::later_bytes_change_nothing;
+pub use laws::{
+    a_request_is_waited_for, a_request_needs_its_bytes_alone, later_bytes_change_nothing,
+};
 pub use reading::read_request;
+pub use sizes::request_size;
 pub use view::RequestView;
 pub use writing::response;

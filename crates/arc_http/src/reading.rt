@@ -12,11 +12,11 @@ use httparse::{EMPTY_HEADER, Request, Status};
 const MAX_HEAD: usize = 8_192;
 
 /// The most header fields.
-const MAX_FIELDS: usize = 64;
+pub(crate) const MAX_FIELDS: usize = 64;
 
 /// The bytes in which a head has to end.
 #[tactic(auto, using(crate::proofs::Texts::all_in_front))]
-fn front_of(buf: &[u8]) -> &[u8]
+pub(crate) fn front_of(buf: &[u8]) -> &[u8]
     ensures { result.now ≡ front_of buf.now }
 {
     if buf.len() <= MAX_HEAD {
