@@ -19,7 +19,7 @@ use std::test::Fail;
 const WITHHELD: [Fate; 3] = [Now, Now, Later];
 
 /// Chooses the fates of nodes 2, 3 and 4.
-fn set_three<D: Disk>(engine: &mut Engine<D, Scripted>, cycle: bool, fates: &[Fate])
+pub(crate) fn set_three<D: Disk>(engine: &mut Engine<D, Scripted>, cycle: bool, fates: &[Fate])
     requires some { 1 ≤ length fates.now }
     requires most { length fates.now ≤ 64 }
     requires in_order { IsInOrder D.tells D.content D.may_leave engine.old }
@@ -106,7 +106,7 @@ fn a_slot_that_another_command_took_is_no_disturbance(rt: HostRuntime) -> Result
 }
 
 /// A read of control 1.
-const READ: Op = Op::GetRoutingControlState {
+pub(crate) const READ: Op = Op::GetRoutingControlState {
     control: ControlId(1),
 };
 

@@ -10,3 +10,5 @@
 mod calls;
 #[cfg(test)]
 mod engine;
+#[cfg(test)]
+mod stops;
